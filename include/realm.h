@@ -49,7 +49,7 @@ struct realm_verdict {
     uint32_t rule;     /* UNFIT: the first rule that is broken */
     uint32_t first;    /* UNFIT: the least line at which it is. UNLAWFUL: for SOURCE, OVERLAP and MISSING the other line */
     uint32_t second;   /* UNFIT: for SECTION, DESCENDS and RACE the second line; the other rules name one */
-    uint64_t line;     /* UNREAD: the first refused line of the text, from 1 */
+    uint64_t line;     /* UNREAD: the first refused line of the text, from 1; in a trace, comments of the graph above it are not counted */
     uint32_t why;      /* UNREAD: the number of its first reason, from 1 */
     uint32_t fault;    /* UNLAWFUL: the first fault of the trace */
     uint32_t place;    /* UNLAWFUL: its place in the trace; MISSING has none */
@@ -68,6 +68,9 @@ uint32_t realm_make(uint64_t seed, uint32_t size, uint8_t *out, size_t room, uin
 
 /* The text of the graph in format 2, or in format 3 where it has that, whether or not it is accepted. DONE, UNREAD, NO_ROOM, NO_MEMORY, TOO_LONG. */
 uint32_t realm_upgrade(const uint8_t *text, size_t length, uint8_t *out, size_t room, uint64_t *written);
+
+/* The same in a format that is asked for, which is 3 alone: USAGE where it is another, else as `realm_upgrade`. */
+uint32_t realm_upgrade_to(const uint8_t *text, size_t length, uint32_t format, uint8_t *out, size_t room, uint64_t *written);
 
 /* The text of a graph, and behind it that of a trace: is the graph accepted and the trace lawful?
    DONE where they are; UNREAD, UNFIT, NO_MEMORY, TOO_LONG, UNLAWFUL. */
@@ -116,8 +119,8 @@ uint32_t realm_run_all(struct realm_run *run, uint32_t threads);
    exactly where one is left and no slot is free: try again after a realm_run_put_back. Misuse: REPORTED. */
 uint32_t realm_run_issue(struct realm_run *run, uint32_t *line);
 
-/* Takes an issued operation. DONE with its work; NOT_YET where it waits for the operation `other`: if that is issued,
-   realm_run_woken gives the line once it has ended, or before; if it is not, nothing does, so try again when it is issued;
+/* Takes an issued operation. DONE with its work; NOT_YET where it waits for the operation `other`, and perhaps for more: if that
+   is issued, realm_run_woken gives the line once it has ended, or before; if it is not, nothing does, so try again when it is issued;
    BUSY_LOCK, BUSY_COLUMN where the reservation or the column `other` is with another operation: try again after a
    realm_run_put_back. A column is with one operation at a time, also where both only read it or their points are apart. One whose
    wait is poisoned is taken, performed and put back too: it does nothing then, and only the report tells; OVER where it is not

@@ -64,6 +64,10 @@ inline Text upgrade(std::string_view text) {
     return text_of([=](uint8_t *out, size_t room, uint64_t *written) { return realm_upgrade(bytes(text), text.size(), out, room, written); });
 }
 
+inline Text upgrade_to(std::string_view text, uint32_t format) {
+    return text_of([=](uint8_t *out, size_t room, uint64_t *written) { return realm_upgrade_to(bytes(text), text.size(), format, out, room, written); });
+}
+
 inline Text plan(std::string_view text, uint32_t processors) {
     return text_of([=](uint8_t *out, size_t room, uint64_t *written) { return realm_plan(bytes(text), text.size(), processors, out, room, written); });
 }

@@ -43,6 +43,9 @@ static void texts_of_small_graphs(void) {
     WANTS_TEXT("realm-report 1\ndone\n");
     WANTS(realm_upgrade(TEXT(plainest), out, sizeof out, &written), REALM_DONE);
     WANTS_TEXT("realm 2\nend\n");
+    WANTS(realm_upgrade_to(TEXT(plainest), 3, out, sizeof out, &written), REALM_DONE);
+    WANTS_TEXT("realm 3\nend\n");
+    WANTS(realm_upgrade_to(TEXT(plainest), 2, out, sizeof out, &written), REALM_USAGE);
     WANTS(realm_plan(TEXT(plainest), 1, out, sizeof out, &written), REALM_DONE);
     WANTS_TEXT("timeline 1\ncritical 0\nlength 0\ndone\n");
     WANTS(realm_make(1, 0, out, sizeof out, &written), REALM_USAGE);

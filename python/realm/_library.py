@@ -52,6 +52,7 @@ _CALLS = {
     "realm_audit": [TEXT, SIZE, ctypes.POINTER(Verdict)],
     "realm_eval": [TEXT, SIZE, *_BUFFER],
     "realm_upgrade": [TEXT, SIZE, *_BUFFER],
+    "realm_upgrade_to": [TEXT, SIZE, U32, *_BUFFER],
     "realm_explain": [TEXT, SIZE, *_BUFFER],
     "realm_plan": [TEXT, SIZE, U32, *_BUFFER],
     "realm_make": [U64, U32, *_BUFFER],

@@ -3,7 +3,7 @@
 from __future__ import annotations
 
 import ctypes
-from typing import AnyStr
+from typing import AnyStr, Optional
 
 from ._library import DONE, LIB, NO_MEMORY, SLOTS, TOO_LONG, UNFIT, UNLAWFUL, UNREAD, USAGE, Verdict, text_of
 from .errors import Refused
@@ -108,9 +108,11 @@ def evaluate(text: AnyStr) -> AnyStr:
     return _made(LIB.realm_eval, text)
 
 
-def upgrade(text: AnyStr) -> AnyStr:
-    """The text of the graph in format 2, or in format 3 where it has that."""
-    return _made(LIB.realm_upgrade, text)
+def upgrade(text: AnyStr, to: Optional[int] = None) -> AnyStr:
+    """The text of the graph in format 2, or in format 3 where it has that; in format 3 where `to` is 3."""
+    if to is None:
+        return _made(LIB.realm_upgrade, text)
+    return _made(LIB.realm_upgrade_to, text, within(to, 3, 3))
 
 
 def explain(text: AnyStr) -> AnyStr:

@@ -28,6 +28,7 @@ class Texts(unittest.TestCase):
         self.assertEqual(realm.evaluate(FILL.encode()), FILL_REPORT.encode())
         self.assertEqual(realm.check(FILL), realm.check(FILL.encode()))
         self.assertEqual(realm.upgrade("realm 1\nend\n"), "realm 2\nend\n")
+        self.assertEqual(realm.upgrade("realm 1\nend\n", to=3), "realm 3\nend\n")
         self.assertEqual(realm.plan("realm 1\nend\n", 1), "timeline 1\ncritical 0\nlength 0\ndone\n")
 
     def test_an_unread_text(self):
@@ -73,6 +74,11 @@ class Runs(unittest.TestCase):
         text = (EXAMPLES / "deferred.realm").read_text()
         for threads in (0, 1, 2, 8):
             self.assertEqual(realm.run(text, threads=threads), shown("deferred"))
+
+    def test_lines_on_several_events(self):
+        for name in ("release", "shared3"):
+            text = (EXAMPLES / f"{name}.realm").read_text()
+            self.assertEqual((realm.evaluate(text), realm.run(text, threads=4)), (shown(name), shown(name)))
 
     def test_generated_graphs(self):
         for seed in range(20):

@@ -8,7 +8,7 @@ use graph_gen::make::make;
 use graph_model::graph::Graph;
 use graph_reader::{ReadRefusal, read_graph};
 use graph_terms::decl::Decl;
-use graph_terms::lists::{LineList, NameList};
+use graph_terms::lists::{EventList, LineList, NameList};
 use graph_terms::name::Name;
 use graph_terms::verb::{Line, Verb};
 use graph_writer::put_graph;
@@ -116,12 +116,12 @@ fn adds_decl(alloc: Global) -> Result<(), Fail> {
 }
 
 /// Adds a user event to a graph, which it is meant to fit: whether memory was there.
-fn add_user(graph: &mut Graph, name: &[u8]) -> Result<bool, Fail> {
+fn add_user(alloc: Global, graph: &mut Graph, name: &[u8]) -> Result<bool, Fail> {
     let name = Name::in_format(graph.format(), name).ok_or("no name")?;
     let line = Line {
         name,
         verb: Verb::User,
-        on: None,
+        on: EventList::new(alloc),
     };
     line.is_well_formed();
     if graph.line_fault(&line).is_some() {
@@ -133,11 +133,11 @@ fn add_user(graph: &mut Graph, name: &[u8]) -> Result<bool, Fail> {
 fn adds_line(alloc: Global) -> Result<(), Fail> {
     let mut graph = Graph::new(alloc);
     let name = Name::new(b"u").ok_or("no name")?;
-    if add_user(&mut graph, b"u")? {
+    if add_user(alloc, &mut graph, b"u")? {
         return after("add_line", false, graph.lines() == 1);
     }
     let is_empty = graph.lines() == 0 && graph.find(&name).is_none();
-    let again = add_user(&mut graph, b"u")?;
+    let again = add_user(alloc, &mut graph, b"u")?;
     after("add_line", true, is_empty && again)
 }
 

@@ -4,7 +4,7 @@ use graph_model::graph::Graph;
 use graph_reader::read_graph;
 use graph_terms::decl::Decl;
 use graph_terms::found::Found;
-use graph_terms::lists::{LineList, NameList};
+use graph_terms::lists::{EventList, LineList, NameList};
 use graph_terms::name::Name;
 use graph_terms::verb::{Access, Edge, EdgeKind, Line, Mode, Verb};
 use graph_terms::why::Why;
@@ -28,10 +28,25 @@ fn found_column(graph: &Graph, inst: &[u8], field: &[u8]) -> Option<u32> {
     graph.find_column(&Name::new(inst)?, &Name::new(field)?)
 }
 
-/// Why a line of this verb does not fit.
-fn line_fault(graph: &Graph, verb: Verb, on: Option<u32>) -> Option<Why> {
+/// Why a line of this verb that waits for these events does not fit.
+fn line_fault(graph: &Graph, verb: Verb, on: EventList) -> Option<Why> {
     let name = Name::new(b"m")?;
     graph.line_fault(&Line { name, verb, on })
+}
+
+/// The first line as the one event behind `on`.
+fn first_line(alloc: Global) -> Result<EventList, Fail> {
+    let mut on = EventList::new(alloc);
+    on.push(0)?;
+    Ok(on)
+}
+
+/// The first two lines as events behind `on`.
+fn two_lines(alloc: Global) -> Result<EventList, Fail> {
+    let mut on = EventList::new(alloc);
+    on.push(0)?;
+    on.push(1)?;
+    Ok(on)
 }
 
 /// Why an instance without fields does not fit.
@@ -91,10 +106,20 @@ fn refuses_items(rt: HostRuntime) -> Result<(), Fail> {
     let alloc = rt.alloc();
     let graph = seven_lines(alloc)?;
     let phase = Verb::Phase { barrier: 0 };
-    assert_eq!(rt; line_fault(&graph, phase, Some(0)), Some(Why::Kind));
+    let first = first_line(alloc)?;
+    assert_eq!(rt; line_fault(&graph, phase, first), Some(Why::Kind));
+    let acquire = Verb::Acquire {
+        lock: 0,
+        shared: false,
+    };
+    let two = two_lines(alloc)?;
+    assert_eq!(rt; line_fault(&graph, acquire, two), Some(Why::Kind));
     let events = LineList::new(alloc);
     let merge = Verb::Merge { events };
-    assert_eq!(rt; line_fault(&graph, merge, None), Some(Why::Number));
+    assert_eq!(rt;
+        line_fault(&graph, merge, EventList::new(alloc)),
+        Some(Why::Number)
+    );
     assert_eq!(rt; bare_fault(alloc, &graph), Some(Why::Number));
     Ok(())
 }

@@ -20,16 +20,16 @@ sum_decls = points_decl ∷ columns_decl ∷ []
 
 -- two fills, and once both have ended, column 0 is added to column 1
 abbrev pub one_fill : Line
-one_fill = record { name = codes "f"; verb = verb.Fill 0 0 20; on = None }
+one_fill = record { name = codes "f"; verb = verb.Fill 0 0 20; on = [] }
 
 abbrev pub other_fill : Line
-other_fill = record { name = codes "g"; verb = verb.Fill 1 0 4; on = None }
+other_fill = record { name = codes "g"; verb = verb.Fill 1 0 4; on = [] }
 
 abbrev pub both_fills : Line
-both_fills = record { name = codes "m"; verb = verb.Merge (0 ∷ 1 ∷ []); on = None }
+both_fills = record { name = codes "m"; verb = verb.Merge (0 ∷ 1 ∷ []); on = [] }
 
 abbrev pub sum : Line
-sum = record { name = codes "r"; verb = verb.Reduce op.Sum 0 1 0; on = Some 2 }
+sum = record { name = codes "r"; verb = verb.Reduce op.Sum 0 1 0; on = 2 ∷ [] }
 
 abbrev pub sum_lines : List Line
 sum_lines = one_fill ∷ other_fill ∷ both_fills ∷ sum ∷ []

@@ -10,7 +10,7 @@ ghost use Rattle.embedded_run.specs.SumGraph.{points_decl, columns_decl, sum_dec
 use crate::failure::Failure;
 use graph_model::graph::Graph;
 use graph_terms::decl::Decl;
-use graph_terms::lists::{LineList, NameList};
+use graph_terms::lists::{EventList, LineList, NameList};
 use graph_terms::name::Name;
 use graph_terms::verb::{Line, Verb};
 use index_spaces::space::Space;
@@ -88,8 +88,8 @@ fn filled(alloc: Global) -> Result<Graph, Failure>
     ensures refused { IfErr result (λ e. e ≡ Failure.NoMemory) }
 {
     let graph = declared(alloc)?;
-    let graph = offer(graph, line(b"f", fill(0, 20), None))?;
-    offer(graph, line(b"g", fill(1, 4), None))
+    let graph = offer(graph, line(b"f", fill(0, 20), EventList::new(alloc)))?;
+    offer(graph, line(b"g", fill(1, 4), EventList::new(alloc)))
 }
 
 /// The same with a merge of the fills.
@@ -99,7 +99,7 @@ fn merged(alloc: Global) -> Result<Graph, Failure>
 {
     let merge = both(alloc)?;
     let graph = filled(alloc)?;
-    offer(graph, line(b"m", merge, None))
+    offer(graph, line(b"m", merge, EventList::new(alloc)))
 }
 
 /// The graph in which two columns are filled, and then one is added to the other.
@@ -108,11 +108,12 @@ pub(crate) fn sum_graph(alloc: Global) -> Result<Graph, Failure>
     ensures refused { IfErr result (λ e. e ≡ Failure.NoMemory) }
 {
     let graph = merged(alloc)?;
-    offer(graph, line(b"r", sum(), Some(2)))
+    let on = one_event(alloc, 2)?;
+    offer(graph, line(b"r", sum(), on))
 }
 
 /// A line of this name.
-fn line(name: &[u8], verb: Verb, on: Option<u32>) -> Line
+fn line(name: &[u8], verb: Verb, on: EventList) -> Line
     requires { IsTrue (is_name name.now) }
     ensures { result ≡ record { name = name.now; verb = verb; on = on } }
 {
@@ -121,6 +122,15 @@ fn line(name: &[u8], verb: Verb, on: Option<u32>) -> Line
         verb,
         on,
     }
+}
+
+/// The list of one event.
+fn one_event(alloc: Global, event: u32) -> Result<EventList, NoMemory>
+    ensures { IfOk result (λ on. on ≡ event ∷ []) }
+{
+    let mut on = EventList::new(alloc);
+    on.push(event)?;
+    Ok(on)
 }
 
 /// Each cell of a column becomes this value.

@@ -1,7 +1,6 @@
 -- Each edge of a graph has a cause.
 use Rattle.std.proofs.Common.{◌≡◌, ℕ, suc, ◌+◌, Bool, true, false, cond, ◌⊎◌, inl, inr, List, [], ◌∷◌, ◌++◌, length, refl, sym, ◌∙◌, ap, subst, append_assoc, arith}
 use Rattle.std.specs.Prelude.{Contains, ◌==◌, Option, Some, None, slice_get, option_map}
-use Rattle.std.specs.Option.{option_map_or}
 use Rattle.std.specs.List.{list_any}
 use Rattle.std.proofs.lemmas.Bool.{true≢false, eq-eqb, eqb-true}
 use Rattle.std.proofs.lemmas.Option.{none-some, same_Some, cond_some}
@@ -14,7 +13,7 @@ use Rattle.graph_terms.specs.declared.verb.Line.{Line}
 use Rattle.graph_terms.specs.declared.verb.Verb.{Verb}
 use Rattle.graph_terms.specs.declared.verb.Verb.TheVariants as verb
 use Rattle.graph_terms.specs.Graph.{GraphValue, verb_at, is_phase_of}
-use Rattle.graph_terms.specs.Edges.{edge, last_place, edges_from_some, verb_edges, line_edges, edges_after, edges}
+use Rattle.graph_terms.specs.Edges.{edge, last_place, edges_from_some, on_edges, verb_edges, line_edges, edges_after, edges}
 use Rattle.explain_graph.specs.declared.causes.Cause.{Cause}
 use Rattle.explain_graph.specs.declared.causes.Cause.TheVariants.{On, Merge, MergeIgnore, Trigger, Cancel, Arrival, PhaseOrder}
 use Rattle.explain_graph.specs.Causes.{IsCause, is_on, source_cause, order_cause, target_cause}
@@ -92,10 +91,10 @@ module _ (g : GraphValue) (a : List Line) (l : Line) (rest : List Line) (parts :
   given_verb v is c = absurd (contains_none e c)
 
   given_line : Contains (line_edges a l) e → (c : Cause) × IsCause g e c
-  given_line c = elim (Contains-append_cases (edges_from_some Passes l.on (length a)) (verb_edges a (length a) l.verb) e c) [
+  given_line c = elim (Contains-append_cases (on_edges l.on (length a)) (verb_edges a (length a) l.verb) e c) [
     | inl on ↦ (
-        let s = some_edge Passes l.on (length a) e on in
-        (On, (l, subst (λ z. slice_get g.lines z ≡ Some l) (to_is (edge s.0 (length a) Passes) s.2) here, s.1 ∙ ap (λ z. Some z) (from_is (edge s.0 (length a) Passes) s.2))))
+        let m = map_contains (λ k. edge k (length a) Passes) l.on e on in
+        (On, (l, subst (λ z. slice_get g.lines z ≡ Some l) (to_is (edge m.0 (length a) Passes) m.2) here, subst (λ z. Contains l.on z) (from_is (edge m.0 (length a) Passes) m.2) m.1)))
     | inr own ↦ given_verb l.verb refl own
   ]
 
@@ -110,12 +109,11 @@ module _ (g : GraphValue) (e : Edge) (source target : Line) (at_source : slice_g
   target_verb : verb_at g e.to ≡ Some target.verb
   target_verb = ap (option_map (λ (x : Line). x.verb)) at_target
 
-  on_by : (o : Option ℕ) → option_map_or (λ x. x == e.from) o false ≡ true → o ≡ Some e.from
-  on_by None h = absurd (true≢false (sym h))
-  on_by (Some k) h = ap (λ z. Some z) (eqb-true k e.from h)
+  named_in : (es : List ℕ) → list_any (λ k. k == e.from) es ≡ true → Contains es e.from
+  named_in es h = let s = some_passes (λ k. k == e.from) es h in subst (λ z. Contains es z) (eqb-true s.0 e.from s.2) s.1
 
   pub on_is : is_on target e.from ≡ true → IsCause g e On
-  on_is h = (target, at_target, on_by target.on h)
+  on_is h = (target, at_target, named_in target.on h)
 
   source_by : (v : Verb) → source.verb ≡ v → (c : Cause) → source_cause v e.to ≡ Some c → IsCause g e c
   source_by (verb.Trigger u) is c h = let t = cond_some (u == e.to) Trigger c h in subst (IsCause g e) t.1 (source_verb ∙ (ap (λ z. Some z) is ∙ ap (λ z. Some (verb.Trigger z)) (eqb-true u e.to t.0)))
@@ -125,9 +123,6 @@ module _ (g : GraphValue) (e : Edge) (source target : Line) (at_source : slice_g
 
   pub source_is : (c : Cause) → source_cause source.verb e.to ≡ Some c → IsCause g e c
   source_is c h = source_by source.verb refl c h
-
-  named_in : (es : List ℕ) → list_any (λ k. k == e.from) es ≡ true → Contains es e.from
-  named_in es h = let s = some_passes (λ k. k == e.from) es h in subst (λ z. Contains es z) (eqb-true s.0 e.from s.2) s.1
 
   order_by : (b : ℕ) → target.verb ≡ verb.Phase b → (w : Verb) → source.verb ≡ w → (c : Cause) → order_cause b w ≡ Some c → IsCause g e c
   order_by b is (verb.Phase k) was c h = let t = cond_some (b == k) PhaseOrder c h in
@@ -161,7 +156,9 @@ module _ (g : GraphValue) (e : Edge) (source target : Line) (at_source : slice_g
     target_none v w h k = ap (λ z. target_cause z w e.from) (sym (target_verb_is v h)) ∙ (ap (λ z. target_cause target.verb z e.from) (sym (source_verb_is w k)) ∙ no_target)
 
     refuted : (c : Cause) → IsCause g e c → ⊥
-    refuted On h = true≢false (sym (ap (λ o. option_map_or (λ x. x == e.from) o false) (ap (λ (x : Line). x.on) (same_Some target h.0 (sym at_target ∙ h.1)) ∙ h.2) ∙ eq-eqb e.from e.from refl) ∙ not_on)
+    refuted On h =
+        let named : Contains target.on e.from = subst (λ (x : Line). Contains x.on e.from) (sym (same_Some target h.0 (sym at_target ∙ h.1))) h.2 in
+        true≢false (sym (passes_some (λ k. k == e.from) target.on e.from named (eq-eqb e.from e.from refl)) ∙ not_on)
     refuted Merge h = made_none (list_any (λ k. k == e.from) h.0) Merge (passes_some (λ k. k == e.from) h.0 e.from h.2 (eq-eqb e.from e.from refl)) (target_none (verb.Merge h.0) source.verb h.1 source_verb)
     refuted MergeIgnore h = made_none (list_any (λ k. k == e.from) h.0) MergeIgnore (passes_some (λ k. k == e.from) h.0 e.from h.2 (eq-eqb e.from e.from refl)) (target_none (verb.MergeIgnore h.0) source.verb h.1 source_verb)
     refuted Trigger h = made_none (e.to == e.to) Trigger (eq-eqb e.to e.to refl) (source_none (verb.Trigger e.to) h)

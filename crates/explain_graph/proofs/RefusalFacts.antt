@@ -1,15 +1,18 @@
 -- What the refusals of the checker tell of paths, acquires and releases.
-use Rattle.std.proofs.Common.{◌≡◌, ◌≢◌, ℕ, ◌<◌, ◌≤◌, Bool, true, false, inl, inr, length, refl, sym, ◌∙◌, subst, arith}
-use Rattle.std.specs.Prelude.{Option, Some, None, IsTrue, IfSome, MatchOption, Vec}
+use Rattle.std.proofs.Common.{◌≡◌, ◌≢◌, ℕ, ◌<◌, ◌≤◌, Bool, true, false, not, inl, inr, List, [], ◌∷◌, length, refl, sym, ◌∙◌, ap, subst, arith}
+use Rattle.std.specs.Prelude.{nat_lt, find, slice_get, Option, Some, None, IsTrue, IfSome, MatchOption, Vec}
 use Rattle.std.specs.Global.{Global}
-use Rattle.std.proofs.lemmas.Bool.{true≢false, cases_lt}
+use Rattle.std.specs.List.{list_all}
+use Rattle.std.proofs.lemmas.Bool.{true≢false, cases_lt, lt-ltb, and_from, not_from_false, true_from_ne_false}
 use Rattle.std.proofs.lemmas.Option.{same_Some}
 use Rattle.graph_terms.specs.declared.verb.Edge.{Edge}
-use Rattle.graph_terms.specs.Graph.{GraphValue, line_passes, is_phase, is_acquire_of, never_comes}
+use Rattle.graph_terms.specs.declared.verb.Line.{Line}
+use Rattle.graph_terms.specs.Graph.{GraphValue, line_passes, is_phase, is_merge_ignore, is_acquire_of, never_comes}
 use Rattle.graph_terms.specs.Fits.{IsGraph}
 use Rattle.graph_meaning.specs.Path.{HasPath}
 use Rattle.graph_terms.specs.Reservations.{lock_at, acquire_at, Releases}
-use Rattle.graph_meaning.specs.Rules.{SectionAt, DescendsAt}
+use Rattle.graph_meaning.specs.Rules.{SectionAt, DescendsAt, stands_on_merges, ReleaseFaultAt}
+use Rattle.basics.proofs.ListFacts.{fails_some, find_none}
 use Rattle.graph_terms.proofs.Public.{passes_below, release_one, release_names, one_release}
 use Rattle.explanations.specs.Paths.{IsShortest}
 use Rattle.explanations.specs.Meetings.{IsNearestCommon}
@@ -59,6 +62,20 @@ module _ (g : GraphValue) (i j q : ℕ) (acquire : acquire_at g i ≡ Some q) wh
     entered_of (Some p) s none =
         let path = path_of g q j p s in
         (s, not_false (line_passes is_phase g j) (λ f. by_phase path (λ a b. true≢false (sym a ∙ f))), not_false (never_comes g j) (λ f. by_phase path (λ a b. true≢false (sym b ∙ f))))
+
+-- a release that is refused stands on no event, where each is a merge that ignores faults
+each_passes : (t : ℕ → Bool) (xs : List ℕ) → find (λ x. not (t x)) xs ≡ None → list_all t xs ≡ true
+each_passes t xs none = true_from_ne_false (list_all t xs) (λ e. (let f = fails_some t xs e in true≢false (sym (not_from_false (t f.0) f.2) ∙ find_none (λ x. not (t x)) xs none f.0 f.1)))
+
+pub stands_on_none : (g : GraphValue) (i : ℕ) (l : Line) → slice_get g.lines i ≡ Some l → (ReleaseFaultAt g i → ⊥) → find (λ m. not (line_passes is_merge_ignore g m)) l.on ≡ None → l.on ≡ []
+stands_on_none g i l at fails none = by l.on refl
+  where
+    by : (on : List ℕ) → l.on ≡ on → on ≡ []
+    by [] e = refl
+    by (m ∷ on) e =
+        let some : nat_lt 0 (length l.on) ≡ true = ap (λ xs. nat_lt 0 (length xs)) e ∙ lt-ltb 0 (length (m ∷ on)) (let h : 0 < length (m ∷ on) = omega arith in h) in
+        let each : list_all (line_passes is_merge_ignore g) l.on ≡ true = each_passes (line_passes is_merge_ignore g) l.on none in
+        absurd (fails (λ q k is r. ap (λ (x : Line). stands_on_merges g x.on) (same_Some k l (sym is ∙ at)) ∙ and_from (nat_lt 0 (length l.on)) (list_all (line_passes is_merge_ignore g) l.on) some each))
 
 -- the nearest line that leads to two
 pub meeting_of : (g : GraphValue) (i j : ℕ) (o : Option Meeting) → IfSome o (IsNearestCommon g i j) → (o ≡ None → (k : ℕ) → HasPath g k i → HasPath g k j → ⊥) → MatchOption o ((k : ℕ) → HasPath g k i → HasPath g k j → ⊥) (IsNearestCommon g i j)

@@ -1,6 +1,6 @@
 -- Why an edge of a graph is there.
-use Rattle.std.specs.Prelude.{◌≡◌, ℕ, ◌==◌, Bool, false, cond, List, Contains, Option, Some, None, slice_get}
-use Rattle.std.specs.Option.{option_map_or, unwrap_or}
+use Rattle.std.specs.Prelude.{◌≡◌, ℕ, ◌==◌, Bool, cond, List, Contains, Option, Some, None, slice_get}
+use Rattle.std.specs.Option.{unwrap_or}
 use Rattle.std.specs.List.{list_any}
 use Rattle.graph_terms.specs.declared.verb.Edge.{Edge}
 use Rattle.graph_terms.specs.declared.verb.Line.{Line}
@@ -12,7 +12,7 @@ use Rattle.explain_graph.specs.declared.causes.Cause.TheVariants.{On, Merge, Mer
 
 -- what each cause says of the line that comes first and of the line that waits
 abbrev pub IsCause : GraphValue → Edge → Cause → Type 0
-IsCause g e On = (l : Line) × (slice_get g.lines e.to ≡ Some l) × (l.on ≡ Some e.from)
+IsCause g e On = (l : Line) × (slice_get g.lines e.to ≡ Some l) × Contains l.on e.from
 IsCause g e Merge = (events : List ℕ) × (verb_at g e.to ≡ Some (verb.Merge events)) × Contains events e.from
 IsCause g e MergeIgnore = (events : List ℕ) × (verb_at g e.to ≡ Some (verb.MergeIgnore events)) × Contains events e.from
 IsCause g e Trigger = verb_at g e.from ≡ Some (verb.Trigger e.to)
@@ -22,7 +22,7 @@ IsCause g e PhaseOrder = (b : ℕ) × (verb_at g e.from ≡ Some (verb.Phase b))
 
 -- a line is on another
 abbrev pub is_on : Line → ℕ → Bool
-is_on l other = option_map_or (λ e. e == other) l.on false
+is_on l other = list_any (λ e. e == other) l.on
 
 -- the cause that the verb of the line that comes first gives, and the one that the other gives
 abbrev pub source_cause : Verb → ℕ → Option Cause

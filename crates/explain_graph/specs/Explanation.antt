@@ -1,5 +1,5 @@
 -- What each explanation says of a graph.
-use Rattle.std.specs.Prelude.{◌≡◌, ◌≢◌, ℕ, ◌<◌, ◌≤◌, false, length, Contains, IsTrue, Some, MatchOption, IfSome, List, slice_get}
+use Rattle.std.specs.Prelude.{◌≡◌, ◌≢◌, ℕ, ◌<◌, ◌≤◌, not, [], length, Contains, IsTrue, Some, None, MatchOption, IfSome, List, slice_get, find}
 use Rattle.graph_terms.specs.declared.verb.Line.{Line}
 use Rattle.graph_terms.specs.declared.verb.Edge.{Edge}
 use Rattle.graph_terms.specs.Edges.{edges}
@@ -54,12 +54,14 @@ pub record IsDescendsReason (g : GraphValue) (i j : ℕ) (r : DescendsReason) : 
   pub entered : IsShortest g i j r.entered.items
   pub left : IsShortest g j r.release r.left.items
 
--- line i releases the acquire, and is on no line or on one that is no merge that ignores faults
+-- line i releases the acquire, and there is no event behind its `on`, or this is the first of them that is no merge that ignores faults
 pub record IsReleaseReason (g : GraphValue) (i : ℕ) (r : ReleaseReason) : Type 0 where
   pub release : r.release ≡ i
   pub releases : Releases g i r.acquire
-  pub line : (l : Line) × (slice_get g.lines i ≡ Some l) × (l.on ≡ r.on)
-  pub on : IfSome r.on (λ m. line_passes is_merge_ignore g m ≡ false)
+  pub line : Line
+  pub at : slice_get g.lines i ≡ Some line
+  pub on : r.on ≡ find (λ m. not (line_passes is_merge_ignore g m)) line.on
+  pub bare : r.on ≡ None → line.on ≡ []
 
 -- the acquires in whose sections a line lies
 pub record AreSectionsOf (g : GraphValue) (i : ℕ) (acquires : List ℕ) : Type 0 where

@@ -56,10 +56,7 @@ pub fn cause_of(graph: &Graph, edge: Edge) -> Cause
 fn is_on(line: &Line, other: u32) -> bool
     ensures { result ≡ is_on line.now other }
 {
-    match line.on {
-        Some(on) => on == other,
-        None => false,
-    }
+    line.on.as_slice().iter().any(|e| *e == other)
 }
 
 /// The cause that a line gives for which another waits.

@@ -1,6 +1,7 @@
 //! What explains each refusal of the checker.
 
-ghost use Rattle.std.specs.Prelude.{◌≡◌, ℕ, ◌<◌, length, IfOk};
+ghost use Rattle.std.specs.Prelude.{◌≡◌, ℕ, ◌<◌, not, length, find, IfOk};
+ghost use Rattle.graph_terms.specs.Graph.{is_merge_ignore, line_passes};
 ghost use Rattle.graph_meaning.specs.Rules.{IsCycle, IsUnreleased, IsOutsideSection, IsNotDescending, IsReleaseFault, IsRace, modes_commute};
 ghost use Rattle.explain_graph.specs.Explanation.{IsCycleReason, IsUnreleasedReason, IsSectionReason, IsDescendsReason, IsReleaseReason, IsConflictReason};
 
@@ -9,7 +10,7 @@ use explanations::races::{RaceReason, explain_race};
 use explanations::sections::{freed, lock_of, release_of, sections_of};
 use graph_meaning::laws::edges_between_lines;
 use graph_model::graph::Graph;
-use graph_terms::verb::{Edge, Mode};
+use graph_terms::verb::{Edge, Mode, Verb};
 use index_spaces::NoMemory;
 use std::alloc::Global;
 
@@ -54,7 +55,8 @@ pub struct DescendsReason {
     pub left: Vec<Edge>,
 }
 
-/// A release of an acquire, and the line that it is on, which is no merge that ignores faults.
+/// A release of an acquire, and the first event behind its `on` that is no merge that ignores
+/// faults. `None` where there is no event behind it.
 #[derive(Clone, Copy, Debug, PartialEq, Eq)]
 pub struct ReleaseReason {
     pub release: u32,
@@ -189,10 +191,27 @@ pub(crate) fn explain_release(graph: &Graph, release: u32) -> ReleaseReason
         Some(acquire) => ReleaseReason {
             release,
             acquire,
-            on: graph.line(release).on,
+            on: first_faulting(graph, graph.line(release).on.as_slice()),
         },
         None => unreachable!(),
     }
+}
+
+/// The first of these events that is no merge that ignores faults.
+fn first_faulting(graph: &Graph, events: &[u32]) -> Option<u32>
+    ensures { result ≡ find (λ m. not (line_passes is_merge_ignore graph.now m)) events.now }
+{
+    events
+        .iter()
+        .copied()
+        .find(|event| !ignores_faults(graph, *event))
+}
+
+/// Whether this is a line, and a merge that ignores faults.
+fn ignores_faults(graph: &Graph, line: u32) -> bool
+    ensures { result ≡ line_passes is_merge_ignore graph.now line }
+{
+    line < graph.lines() && matches!(graph.line(line).verb, Verb::MergeIgnore { .. })
 }
 
 /// Explains a race.

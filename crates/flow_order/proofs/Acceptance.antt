@@ -20,7 +20,7 @@ use Rattle.graph_meaning.specs.Path.{Path, HasPath, last, first}
 use Rattle.graph_terms.specs.Edges.{edge}
 use Rattle.graph_terms.specs.Access.{verb_accesses, in_format, accesses, modes_clash, AccessesConflict, Conflict}
 use Rattle.graph_terms.specs.Reservations.{Acquires, Releases}
-use Rattle.graph_meaning.specs.Rules.{Section, modes_commute, Exempt, NoCycleAt, ReleasedAt, SectionAt, DescendsAt, ReleaseFaultAt, RaceAt, Everywhere, EverywhereTwice, Accepted}
+use Rattle.graph_meaning.specs.Rules.{Section, modes_commute, Exempt, NoCycleAt, ReleasedAt, SectionAt, DescendsAt, stands_on_merges, ReleaseFaultAt, RaceAt, Everywhere, EverywhereTwice, Accepted}
 use Rattle.graph_terms.specs.Fits.{IsGraph}
 use Rattle.basics.proofs.ListFacts.{contains_none, passes_some, map_contains}
 use Rattle.graph_terms.proofs.Public.{arrive_accesses}
@@ -186,7 +186,7 @@ module _ (listed : PointsAreListed) (f : GraphValue) (commute : Bool) (g : Graph
       let s = stand.releases i q (ap (λ (o : Option Line). option_map_or (is_release_of q) (option_map (λ (x : Line). x.verb) o) false) at ∙ r) in
       let h = s.1 in
       let same : l ≡ h.last = same_Some l h.last (sym at ∙ (ap (slice_get g.lines) s.0 ∙ h.release)) in
-      (q + 2, ap (λ (x : Line). x.on) same ∙ h.on, ap (λ v. option_map_or is_merge_ignore v false) h.merge)
+      ap (stands_on_merges g) (ap (λ (x : Line). x.on) same ∙ h.on) ∙ ap (λ v. option_map_or is_merge_ignore v false && true) h.merge
 
   -- a line with an access is one of the flow
   used_line : (i : ℕ) (a : Access) (x : Option Line) → slice_get g.lines i ≡ x → Contains (option_map_or verb_accesses (option_map (λ (l : Line). l.verb) x) []) a → (m : ℕ) × (m < length f.lines) × (place m ≡ i)

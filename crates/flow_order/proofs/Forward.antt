@@ -1,6 +1,6 @@
 -- Where each line waits for lines above it alone, paths lead forward, and the evaluation ends the lines in the order of the file.
 use Rattle.std.proofs.Common.{◌≡◌, ℕ, zero, suc, ◌+◌, ◌<◌, ◌≤◌, Bool, true, false, not, cond, ◌&&◌, inl, inr, List, [], ◌∷◌, ◌++◌, length, map, refl, sym, ◌∙◌, ap, subst, arith}
-use Rattle.std.specs.Prelude.{Contains, Option, Some, None, find}
+use Rattle.std.specs.Prelude.{Contains, Some, None, find}
 use Rattle.std.specs.List.{list_all, range_with_len}
 use Rattle.std.proofs.lemmas.Bool.{true≢false, cases_order, and_left, false_from_ne_true, not_from_true}
 use Rattle.std.proofs.lemmas.List.{map-append}
@@ -15,12 +15,12 @@ use Rattle.graph_terms.specs.declared.verb.Line.{Line}
 use Rattle.graph_terms.specs.declared.verb.Verb.{Verb}
 use Rattle.graph_terms.specs.declared.verb.Verb.TheVariants.{User, Trigger, Cancel, Merge, MergeIgnore, Phase, Arrive, Acquire, Release, Fill, Copy, Reduce, Task}
 use Rattle.graph_terms.specs.Graph.{GraphValue, never_comes}
-use Rattle.graph_terms.specs.Edges.{edge, edges_from_some, verb_edges, line_edges, edges_after, edges, sources}
+use Rattle.graph_terms.specs.Edges.{edge, on_edges, verb_edges, line_edges, edges_after, edges, sources}
 use Rattle.graph_meaning.specs.Path.{Path, HasPath, last, first}
 use Rattle.graph_meaning.specs.Rules.{NoCycleAt, Everywhere}
-use Rattle.graph_terms.specs.Fits.{line_fault, named_lines, on_lines, LinesFit, IsGraph}
+use Rattle.graph_terms.specs.Fits.{line_fault, named_lines, LinesFit, IsGraph}
 use Rattle.graph_meaning.specs.Evaluation.{Step, has_ended, is_ready, step_of, lowest_ready, advance_by, steps_after, order}
-use Rattle.basics.proofs.ListFacts.{contains_cases, contains_none, contains_here, contains_there, map_contains, passes_each, got_contains}
+use Rattle.basics.proofs.ListFacts.{contains_none, contains_here, contains_there, map_contains, passes_each, got_contains}
 use Rattle.graph_terms.proofs.Public.{passes_verb, verb_line, phase_is, never_as, named_below}
 use Rattle.graph_meaning.proofs.Public.{step_of-line, stays_ended, has_ended_last, ended_cases, ready_passes}
 use Rattle.flow_order.specs.Forward.{leads_forward, AllForward}
@@ -29,12 +29,8 @@ use Rattle.flow_order.specs.Forward.{leads_forward, AllForward}
 edge_rises : (k n : ℕ) (kind : EdgeKind) (e : Edge) → edge k n kind ≡ e → k < n → e.from < e.to
 edge_rises k n kind e s h = subst (λ (x : Edge). x.from < x.to) s h
 
-one_is : (x e : Edge) → Contains (x ∷ []) e → x ≡ e
-one_is x e c = elim (contains_cases x [] e c) [ inl s ↦ s | inr r ↦ absurd (contains_none e r) ]
-
-on_rises : (o : Option ℕ) (n : ℕ) → ((k : ℕ) → Contains (on_lines o) k → k < n) → (e : Edge) → Contains (edges_from_some Passes o n) e → e.from < e.to
-on_rises None n h e c = absurd (contains_none e c)
-on_rises (Some k) n h e c = edge_rises k n Passes e (one_is (edge k n Passes) e c) (h k (contains_here k []))
+on_rises : (on : List ℕ) (n : ℕ) → ((k : ℕ) → Contains on k → k < n) → (e : Edge) → Contains (on_edges on n) e → e.from < e.to
+on_rises on n h e c = let m = map_contains (λ x. edge x n Passes) on e c in edge_rises m.0 n Passes e m.2 (h m.0 m.1)
 
 verb_rises : (b : List Line) (v : Verb) → leads_forward v ≡ true → ((k : ℕ) → Contains (named_lines v) k → k < length b) → (e : Edge) → Contains (verb_edges b (length b) v) e → e.from < e.to
 verb_rises b User f h e c = absurd (true≢false (sym f))
@@ -54,9 +50,9 @@ verb_rises b (Task k) f h e c = absurd (contains_none e c)
 line_rises : (format : Format) (decls : List Decl) (b : List Line) (l : Line) → line_fault (record { «format» = format; decls = decls; lines = b }) l ≡ None → leads_forward l.verb ≡ true → (e : Edge) → Contains (line_edges b l) e → e.from < e.to
 line_rises format decls b l fits f e c =
     let g : GraphValue = record { «format» = format; decls = decls; lines = b } in
-    elim (Contains-append_cases (edges_from_some Passes l.on (length b)) (verb_edges b (length b) l.verb) e c) [
-      | inl on ↦ on_rises l.on (length b) (λ k h. named_below g l fits k (Contains-append_right (named_lines l.verb) (on_lines l.on) k h)) e on
-      | inr own ↦ verb_rises b l.verb f (λ k h. named_below g l fits k (Contains-append_left (named_lines l.verb) (on_lines l.on) k h)) e own
+    elim (Contains-append_cases (on_edges l.on (length b)) (verb_edges b (length b) l.verb) e c) [
+      | inl on ↦ on_rises l.on (length b) (λ k h. named_below g l fits k (Contains-append_right (named_lines l.verb) l.on k h)) e on
+      | inr own ↦ verb_rises b l.verb f (λ k h. named_below g l fits k (Contains-append_left (named_lines l.verb) l.on k h)) e own
     ]
 
 lines_rise : (format : Format) (decls : List Decl) (b ls : List Line) → LinesFit format decls b ls → ((l : Line) → Contains ls l → leads_forward l.verb ≡ true) → (e : Edge) → Contains (edges_after b ls) e → e.from < e.to

@@ -1,6 +1,6 @@
 -- The evaluation of a graph whose lines wait for lines above them alone, line by line: a line is cancelled exactly where a path along which faults pass leads to it from a line that faulted.
 use Rattle.std.proofs.Common.{◌≡◌, ℕ, zero, suc, ◌<◌, ◌≤◌, true, inl, inr, List, [], ◌∷◌, ◌++◌, length, refl, sym, ◌∙◌, ap, subst, arith}
-use Rattle.std.specs.Prelude.{Contains, Option, Some, None, ◌≢◌}
+use Rattle.std.specs.Prelude.{Contains, ◌≢◌}
 use Rattle.std.proofs.lemmas.Bool.{true≢false, cases_order}
 use Rattle.std.proofs.lemmas.List.Elements.{Contains-append_cases}
 use Rattle.graph_terms.specs.declared.outcome.End.TheVariants.{Faulted}
@@ -12,11 +12,11 @@ use Rattle.graph_terms.specs.declared.verb.Line.{Line}
 use Rattle.graph_terms.specs.declared.verb.Verb.{Verb}
 use Rattle.graph_terms.specs.declared.verb.Verb.TheVariants.{User, Trigger, Cancel, Merge, MergeIgnore, Phase, Arrive, Acquire, Release, Fill, Copy, Reduce, Task}
 use Rattle.graph_terms.specs.Graph.{GraphValue}
-use Rattle.graph_terms.specs.Edges.{edge, edges_from_some, verb_edges, line_edges, edges_after, edges}
+use Rattle.graph_terms.specs.Edges.{edge, on_edges, verb_edges, line_edges, edges_after, edges}
 use Rattle.graph_meaning.specs.Path.{Path, last, first}
 use Rattle.graph_terms.specs.Fits.{IsGraph}
 use Rattle.graph_meaning.specs.Evaluation.{is_ended, end_in, step_of, steps_after, advance_by, eval_end, Unbroken, faults, faulted, on}
-use Rattle.basics.proofs.ListFacts.{contains_cases, contains_none, contains_here, contains_there, map_contains, filter_contains, contains_filter}
+use Rattle.basics.proofs.ListFacts.{contains_none, contains_here, contains_there, map_contains, filter_contains, contains_filter}
 use Rattle.graph_meaning.proofs.Public.{end_in-push, end_in_last, step_of-line, step_of-ended}
 use Rattle.flow_order.specs.Forward.{leads_forward, AllForward}
 use Rattle.flow_order.specs.Orders.{is_passing, passing_edges}
@@ -26,12 +26,8 @@ use Rattle.flow_order.proofs.Forward.{forward_each, next_is, in_order}
 edge_kind : (k n : ℕ) (kind : EdgeKind) (e : Edge) → edge k n kind ≡ e → kind ≢ Faults → e.kind ≢ Faults
 edge_kind k n kind e s h = subst (λ (x : Edge). x.kind ≢ Faults) s h
 
-one_is : (x e : Edge) → Contains (x ∷ []) e → x ≡ e
-one_is x e c = elim (contains_cases x [] e c) [ inl s ↦ s | inr r ↦ absurd (contains_none e r) ]
-
-on_kind : (o : Option ℕ) (n : ℕ) (e : Edge) → Contains (edges_from_some Passes o n) e → e.kind ≢ Faults
-on_kind None n e c = absurd (contains_none e c)
-on_kind (Some k) n e c = edge_kind k n Passes e (one_is (edge k n Passes) e c) (λ h. cc)
+on_kind : (es : List ℕ) (n : ℕ) (e : Edge) → Contains (on_edges es n) e → e.kind ≢ Faults
+on_kind es n e c = let m = map_contains (λ x. edge x n Passes) es e c in edge_kind m.0 n Passes e m.2 (λ h. cc)
 
 verb_kind : (b : List Line) (v : Verb) → leads_forward v ≡ true → (e : Edge) → Contains (verb_edges b (length b) v) e → e.kind ≢ Faults
 verb_kind b User f e c = absurd (true≢false (sym f))
@@ -51,7 +47,7 @@ verb_kind b (Task k) f e c = absurd (contains_none e c)
 lines_kind : (b ls : List Line) → ((l : Line) → Contains ls l → leads_forward l.verb ≡ true) → (e : Edge) → Contains (edges_after b ls) e → e.kind ≢ Faults
 lines_kind b [] f e c = absurd (contains_none e c)
 lines_kind b (l ∷ ls) f e c = elim (Contains-append_cases (line_edges b l) (edges_after (b ++ l ∷ []) ls) e c) [
-  | inl own ↦ elim (Contains-append_cases (edges_from_some Passes l.on (length b)) (verb_edges b (length b) l.verb) e own) [
+  | inl own ↦ elim (Contains-append_cases (on_edges l.on (length b)) (verb_edges b (length b) l.verb) e own) [
     | inl before ↦ on_kind l.on (length b) e before
     | inr verb ↦ verb_kind b l.verb (f l (contains_here l ls)) e verb
   ]

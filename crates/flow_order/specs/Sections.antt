@@ -24,7 +24,7 @@ pub record Held (g : GraphValue) (q : ℕ) : Type 0 where
   pub last : Line
   pub release : slice_get g.lines (q + 3) ≡ Some last
   pub releases : last.verb ≡ Release q
-  pub on : last.on ≡ Some (q + 2)
+  pub on : last.on ≡ (q + 2) ∷ []
   pub to_sum : Contains (edges g) (edge q (q + 1) Passes)
   pub to_merge : Contains (edges g) (edge (q + 1) (q + 2) Ignores)
   pub to_release : Contains (edges g) (edge (q + 2) (q + 3) Passes)

@@ -1,7 +1,7 @@
 -- The text of a graph of format 1 whose lines are all those of a flow is, behind its first line, that of a flow.
-use Rattle.std.proofs.Common.{◌≡◌, ℕ, ◌≤◌, Bool, true, false, cond, ◌&&◌, length, List, [], ◌++◌, refl, sym, ◌∙◌, ap, subst, append_assoc, arith}
-use Rattle.std.specs.Prelude.{Option, Some, None, is_none, slice_index, nat_lt, IsTrue}
-use Rattle.std.proofs.lemmas.Bool.{true≢false, and_parts}
+use Rattle.std.proofs.Common.{◌≡◌, ℕ, suc, ◌≤◌, Bool, true, false, cond, ◌&&◌, length, List, [], ◌∷◌, ◌++◌, refl, sym, ◌∙◌, ap, subst, append_assoc, arith}
+use Rattle.std.specs.Prelude.{◌==◌, slice_index, nat_lt, IsTrue}
+use Rattle.std.proofs.lemmas.Bool.{true≢false, and_parts, eqb-true}
 use Rattle.graph_terms.specs.declared.format.Format.{Format}
 use Rattle.graph_terms.specs.declared.format.Format.TheVariants.{One, Two, Three}
 use Rattle.graph_terms.specs.Graph.{GraphValue}
@@ -13,9 +13,9 @@ use Rattle.graph_reader.proofs.Public.{texts_are_bare}
 use Rattle.flow_order.specs.Flow.{IsFlow, uses_columns}
 use Rattle.flow_top.specs.FlowText.{flow_header, FlowText, AreFlowLines}
 
-none_is : (o : Option ℕ) → is_none o ≡ true → o ≡ None
-none_is None h = refl
-none_is (Some x) h = absurd (true≢false (sym h))
+none_is : (on : List ℕ) → (length on == 0) ≡ true → on ≡ []
+none_is [] h = refl
+none_is (e ∷ on) h = absurd (let z : suc (length on) ≡ 0 = eqb-true (suc (length on)) 0 h in omega arith)
 
 true_is : (b : Bool) → b ≡ true → IsTrue b
 true_is true e = refl
@@ -41,8 +41,8 @@ pub flow_of : (rest : List ℕ) (g : GraphValue) → GraphText (header One ++ re
 flow_of rest g t lines = record {
   fits = t.is_graph;
   one = one_of rest g t;
-  uses = λ i l at. true_is (uses_columns l.verb) (and_parts (uses_columns l.verb) (is_none l.on) (lines i l at)).0;
-  waits = λ i l at. none_is l.on (and_parts (uses_columns l.verb) (is_none l.on) (lines i l at)).1;
+  uses = λ i l at. true_is (uses_columns l.verb) (and_parts (uses_columns l.verb) (length l.on == 0) (lines i l at)).0;
+  waits = λ i l at. none_is l.on (and_parts (uses_columns l.verb) (length l.on == 0) (lines i l at)).1;
 }
 
 pub flow_text : (bytes rest : List ℕ) (g : GraphValue) → bytes ≡ flow_header ++ rest → GraphText (header One ++ rest) g → AreFlowLines g → FlowText bytes g

@@ -1,5 +1,5 @@
 -- The text of a flow, and why bytes are none.
-use Rattle.std.specs.Prelude.{◌≡◌, ℕ, ◌+◌, ◌-◌, ◌<◌, ◌⊎◌, Bool, true, false, ◌&&◌, List, [], ◌∷◌, ◌++◌, length, drop, find, nat_le, ◌||◌, Option, Some, None, is_none, slice_get, slice_index_or, codes}
+use Rattle.std.specs.Prelude.{◌≡◌, ℕ, ◌+◌, ◌-◌, ◌<◌, ◌==◌, ◌⊎◌, Bool, true, false, ◌&&◌, List, [], ◌∷◌, ◌++◌, length, drop, find, nat_le, ◌||◌, Option, Some, None, slice_get, slice_index_or, codes}
 use Rattle.std.specs.Option.{option_map_or}
 use Rattle.graph_terms.specs.declared.table.Kind.{Kind}
 use Rattle.graph_terms.specs.declared.table.Kind.TheVariants as kinds
@@ -36,7 +36,7 @@ pub record FlowText (bytes : List ℕ) (f : GraphValue) : Type 0 where
 
 -- a line of a flow uses columns and waits for nothing
 abbrev pub is_flow_line : Line → Bool
-is_flow_line l = uses_columns l.verb && is_none l.on
+is_flow_line l = uses_columns l.verb && (length l.on == 0)
 
 abbrev pub AreFlowLines : GraphValue → Type 0
 AreFlowLines g = (i : ℕ) (l : Line) → slice_get g.lines i ≡ Some l → is_flow_line l ≡ true
@@ -67,7 +67,7 @@ is_event_kind _ = false
 
 -- whether words of a kind have `on` behind them
 abbrev pub waits : Kind → List (List ℕ) → Bool
-waits kind ws = nat_le (length (kind_words kind)) (length ws) && has_on (form_of kind) (drop (length (kind_words kind)) ws)
+waits kind ws = nat_le (length (kind_words kind)) (length ws) && has_on One (form_of kind) (drop (length (kind_words kind)) ws)
 
 abbrev pub is_merge : List (List ℕ) → Bool
 is_merge ws = same_word (slice_index_or ws 0 []) (codes "merge") || same_word (slice_index_or ws 0 []) (codes "mergei")

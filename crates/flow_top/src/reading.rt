@@ -1,6 +1,6 @@
 //! Reading a flow from its text.
 
-ghost use Rattle.std.specs.Prelude.{◌≡◌, ◌<◌, ◌++◌, ℕ, length, None, Some, slice_get, IfOk, IfErr, MatchOption, is_none, ◌&&◌};
+ghost use Rattle.std.specs.Prelude.{◌≡◌, ◌<◌, ◌++◌, ℕ, length, None, Some, slice_get, IfOk, IfErr, MatchOption, ◌==◌, ◌&&◌};
 ghost use Rattle.graph_terms.specs.Graph.{GraphValue};
 ghost use Rattle.graph_terms.specs.Spelling.{header};
 ghost use Rattle.graph_terms.specs.declared.format.Format.TheVariants.{One};
@@ -122,7 +122,7 @@ fn first_other(graph: &Graph) -> Option<u32>
 fn is_flow_line(line: &Line) -> bool
     ensures { result ≡ is_flow_line line.now }
 {
-    uses_columns(&line.verb) && line.on.is_none()
+    uses_columns(&line.verb) && line.on.len() == 0
 }
 
 fn uses_columns(verb: &Verb) -> bool

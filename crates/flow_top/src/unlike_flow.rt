@@ -62,7 +62,7 @@ fn waits(kind: Kind, words: &[&[u8]]) -> bool
     ensures { result ≡ waits kind (contents words.now) }
 {
     let fixed = kind.words().len();
-    words.len() >= fixed && has_on(kind, behind(words, fixed))
+    words.len() >= fixed && has_on(Format::One, kind, behind(words, fixed))
 }
 
 fn is_event_kind(kind: Kind) -> bool

@@ -32,7 +32,7 @@ pub fn answer_upgrade<K: Sink>(alloc: Global, bytes: &[u8], to_three: bool, sink
 }
 
 /// The graph in format 3 where that is asked for; else in format 2, or in format 3 where it has that.
-fn upgraded(graph: Graph, to_three: bool) -> Graph
+pub fn upgraded(graph: Graph, to_three: bool) -> Graph
     ensures { result ≡ upgrade_of to_three graph }
 {
     if to_three {

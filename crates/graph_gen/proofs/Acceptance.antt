@@ -1,5 +1,5 @@
 -- A generated graph is accepted.
-use Rattle.std.proofs.Common.{◌≡◌, ℕ, zero, suc, ◌+◌, ◌^◌, ◌<◌, ◌≤◌, true, false, ◌⊎◌, inl, inr, List, [], ◌∷◌, length, refl, sym, ◌∙◌, ap, ap₂, subst, arith}
+use Rattle.std.proofs.Common.{◌≡◌, ℕ, zero, suc, ◌+◌, ◌^◌, ◌<◌, ◌≤◌, true, false, ◌&&◌, ◌⊎◌, inl, inr, List, [], ◌∷◌, length, refl, sym, ◌∙◌, ap, ap₂, subst, arith}
 use Rattle.std.specs.Prelude.{Contains, Option, Some, slice_get, option_map}
 use Rattle.std.specs.Option.{option_map_or}
 use Rattle.std.proofs.lemmas.Bool.{true≢false, eq-eqb, and_left}
@@ -16,7 +16,7 @@ use Rattle.graph_meaning.specs.Path.{Path, HasPath, last, first}
 use Rattle.graph_terms.specs.Access.{access, modes_clash, AccessesConflict}
 use Rattle.graph_terms.specs.Edges.{edge}
 use Rattle.graph_terms.specs.Reservations.{Releases}
-use Rattle.graph_meaning.specs.Rules.{Section, modes_commute, Exempt, NoCycleAt, ReleasedAt, SectionAt, DescendsAt, ReleaseFaultAt, RaceAt, Everywhere, EverywhereTwice, Accepted}
+use Rattle.graph_meaning.specs.Rules.{Section, modes_commute, Exempt, NoCycleAt, ReleasedAt, SectionAt, DescendsAt, stands_on_merges, ReleaseFaultAt, RaceAt, Everywhere, EverywhereTwice, Accepted}
 use Rattle.basics.proofs.ListFacts.{contains_cases, contains_none}
 use Rattle.graph_meaning.proofs.Public.{path_append}
 use Rattle.graph_gen.specs.MadeGraph.{next_state, row_lines, total_column, made_line, Made, unmade, drawn, after_draws, made_graph}
@@ -97,7 +97,7 @@ module _ (ls : List Line) (shape : Shape ls) where
       let s = shape.releases i q (ap (λ (o : Option Line). option_map_or (is_release_of q) (option_map (λ (x : Line). x.verb) o) false) at ∙ r) in
       let h = s.1 in
       let same : l ≡ made_line (q + 3) (verb.Release q) (Some (q + 2)) = same_Some l (made_line (q + 3) (verb.Release q) (Some (q + 2))) (sym at ∙ (ap (slice_get ls) s.0 ∙ h.release)) in
-      (q + 2, ap (λ (x : Line). x.on) same, ap (λ v. option_map_or is_merge_ignore v false) h.merge)
+      ap (λ (x : Line). stands_on_merges g x.on) same ∙ ap (λ v. option_map_or is_merge_ignore v false && true) h.merge
 
   -- what the sum of a section uses
   sum_uses : (q i : ℕ) (a : Access) → Held ls q → i ≡ q + 1 → Contains (uses_in ls i) a → ((a.mode ≡ mode.Read) × (a.column < 8)) ⊎ ((a.mode ≡ mode.Sum) × (a.column ≡ 8))

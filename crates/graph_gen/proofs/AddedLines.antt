@@ -1,5 +1,5 @@
 -- What stands where lines are added to lines: each line, each edge and each path.
-use Rattle.std.proofs.Common.{◌≡◌, ℕ, zero, suc, ◌+◌, ◌-◌, ◌<◌, ◌⊎◌, inl, inr, List, [], ◌∷◌, ◌++◌, length, map, refl, sym, ◌∙◌, ap, subst, append_assoc, append-nil, arith}
+use Rattle.std.proofs.Common.{◌≡◌, ℕ, zero, suc, ◌+◌, ◌-◌, ◌<◌, ◌⊎◌, inl, inr, List, [], ◌∷◌, ◌++◌, length, map, refl, sym, ap, subst, arith}
 use Rattle.std.specs.Prelude.{Contains, Option, slice_get, option_map}
 use Rattle.std.specs.Option.{option_map_or}
 use Rattle.std.proofs.lemmas.Bool.{cases_order}
@@ -10,8 +10,9 @@ use Rattle.graph_terms.specs.declared.verb.Edge.{Edge}
 use Rattle.graph_terms.specs.declared.verb.Line.{Line}
 use Rattle.graph_terms.specs.declared.verb.Verb.{Verb}
 use Rattle.graph_terms.specs.Access.{verb_accesses, in_format}
-use Rattle.graph_terms.specs.Edges.{line_edges, edges_after}
+use Rattle.graph_terms.specs.Edges.{edges_after}
 use Rattle.graph_meaning.specs.Path.{Path, last, first}
+use Rattle.graph_meaning.proofs.MergedEvents.{edges_after_join}
 
 -- what a line of this number does and uses, and the edges of lines
 abbrev pub verb_in : List Line → ℕ → Option Verb
@@ -52,20 +53,14 @@ pub verb_new : (ls row : List Line) (i k : ℕ) → i ≡ length ls + k → verb
 verb_new ls row i k h = ap (option_map (λ (l : Line). l.verb)) (got_new ls row i k h)
 
 -- the edges of the lines that are added come last
-after_join : (before xs ys : List Line) → edges_after before (xs ++ ys) ≡ edges_after before xs ++ edges_after (before ++ xs) ys
-after_join before [] ys = ap (λ b. edges_after b ys) (sym (append-nil before))
-after_join before (x ∷ xs) ys =
-    ap (λ es. line_edges before x ++ es) (after_join (before ++ x ∷ []) xs ys ∙ ap (λ b. edges_after (before ++ x ∷ []) xs ++ edges_after b ys) (append_assoc before (x ∷ []) xs))
-    ∙ sym (append_assoc (line_edges before x) (edges_after (before ++ x ∷ []) xs) (edges_after (before ++ x ∷ xs) ys))
-
 pub edge_old : (ls row : List Line) (e : Edge) → Contains (edges_in ls) e → Contains (edges_in (ls ++ row)) e
-edge_old ls row e c = subst (λ es. Contains es e) (sym (after_join [] ls row)) (Contains-append_left (edges_in ls) (edges_after ls row) e c)
+edge_old ls row e c = subst (λ es. Contains es e) (sym (edges_after_join [] ls row)) (Contains-append_left (edges_in ls) (edges_after ls row) e c)
 
 pub edge_new : (ls row : List Line) (e : Edge) → Contains (edges_after ls row) e → Contains (edges_in (ls ++ row)) e
-edge_new ls row e c = subst (λ es. Contains es e) (sym (after_join [] ls row)) (Contains-append_right (edges_in ls) (edges_after ls row) e c)
+edge_new ls row e c = subst (λ es. Contains es e) (sym (edges_after_join [] ls row)) (Contains-append_right (edges_in ls) (edges_after ls row) e c)
 
 pub edge_cases : (ls row : List Line) (e : Edge) → Contains (edges_in (ls ++ row)) e → Contains (edges_in ls) e ⊎ Contains (edges_after ls row) e
-edge_cases ls row e c = Contains-append_cases (edges_in ls) (edges_after ls row) e (subst (λ es. Contains es e) (after_join [] ls row) c)
+edge_cases ls row e c = Contains-append_cases (edges_in ls) (edges_after ls row) e (subst (λ es. Contains es e) (edges_after_join [] ls row) c)
 
 -- a path is one where there are more edges
 pub path_more : {all more : List Edge} → ((e : Edge) → Contains all e → Contains more e) → {i j : ℕ} → Path all i j → Path more i j

@@ -12,14 +12,13 @@ use Rattle.graph_terms.specs.declared.verb.Line.{Line}
 use Rattle.graph_terms.specs.declared.verb.Mode.TheVariants as mode
 use Rattle.graph_terms.specs.Access.{access}
 use Rattle.graph_terms.specs.Edges.{edge}
-use Rattle.graph_terms.specs.Fits.{on_lines}
 use Rattle.graph_meaning.specs.Path.{Path, last, first}
 use Rattle.basics.proofs.ListFacts.{contains_cases, contains_none, contains_here, contains_there}
 use Rattle.graph_meaning.proofs.Public.{path_append}
 use Rattle.graph_gen.specs.declared.draw.Row.{Row}
 use Rattle.graph_gen.specs.declared.draw.Row.TheVariants.{Fill, Iota, Expect, Settle, Copy, Sum, Event, Section}
 use Rattle.graph_gen.specs.declared.draw.Draw.{Draw}
-use Rattle.graph_gen.specs.MadeGraph.{last_of, merged, row_lines, lasts_after, total_column}
+use Rattle.graph_gen.specs.MadeGraph.{last_of, merged, row_lines, lasts_after, total_column, on_lines}
 use Rattle.graph_gen.proofs.AddedLines.{uses_of, uses_in, edges_in, old_or_new, verb_old, verb_new, edge_old, path_more, UpTo}
 use Rattle.graph_gen.proofs.RowEdges.{row_sources, row_waits, row_kind, inner_edge, waits_edge}
 

@@ -1,5 +1,5 @@
 -- The worked example: seed 1 and size 1.
-use Rattle.std.specs.Prelude.{◌≡◌, ◌/◌, ◌^◌, [], ◌∷◌, None, codes}
+use Rattle.std.specs.Prelude.{◌≡◌, ◌/◌, ◌^◌, [], ◌∷◌, codes}
 use Rattle.std.proofs.Common.{refl}
 use Rattle.std.specs.Fmt.{digits}
 use Rattle.graph_terms.specs.declared.format.Format.TheVariants.{One}
@@ -18,6 +18,6 @@ first_draw : draw_of (next_state 1) ≡ record { row = Copy; column = 5; other =
 first_draw = refl
 
 -- no last line is there, so that the column is filled
-pub first_graph : made_graph 1 1 ≡ record { format = One; decls = made_decls; lines = record { name = codes "o0"; verb = Fill 5 0 27735; on = None } ∷ [] }
+pub first_graph : made_graph 1 1 ≡ record { format = One; decls = made_decls; lines = record { name = codes "o0"; verb = Fill 5 0 27735; on = [] } ∷ [] }
 unfolding digits
 first_graph = refl

@@ -9,17 +9,15 @@ use Rattle.graph_terms.specs.declared.verb.Access.{Access}
 use Rattle.graph_terms.specs.declared.verb.Line.{Line}
 use Rattle.graph_terms.specs.declared.verb.Mode.{Mode}
 use Rattle.graph_terms.specs.declared.verb.Mode.TheVariants.{Read, Write, Sum}
-use Rattle.graph_terms.specs.declared.verb.EdgeKind.{EdgeKind}
-use Rattle.graph_terms.specs.declared.verb.EdgeKind.TheVariants.{Passes}
 use Rattle.graph_terms.specs.declared.verb.Verb.{Verb}
 use Rattle.graph_terms.specs.declared.verb.Verb.TheVariants.{User, Trigger, Merge, MergeIgnore, Acquire, Release, Fill, Copy, Reduce, Task}
 use Rattle.graph_terms.specs.declared.table.Kernel.TheVariants.{Iota, Expect}
 use Rattle.graph_terms.specs.Graph.{is_user, is_acquire, ends_user, is_release_of}
 use Rattle.graph_terms.specs.Access.{access, verb_accesses}
-use Rattle.graph_terms.specs.Edges.{edges_from_some, verb_edges, line_edges}
-use Rattle.graph_terms.specs.Fits.{on_lines, access_unknown, access_outside, repeats, line_unknown, IsVerb}
+use Rattle.graph_terms.specs.Edges.{on_edges, verb_edges, line_edges}
+use Rattle.graph_terms.specs.Fits.{access_unknown, access_outside, repeats, line_unknown, IsVerb}
 use Rattle.graph_terms.specs.Spelling.{column_name, line_name, verb_words, on_words}
-use Rattle.graph_gen.specs.MadeGraph.{made_line}
+use Rattle.graph_gen.specs.MadeGraph.{on_lines, made_line}
 use Rattle.graph_gen.proofs.LineNames.{decimal_short}
 use Rattle.graph_gen.proofs.Standing.{lined, both_false, against, Standing, NextFits, Sized, size_cons, size_none, within_sixty, name_size}
 
@@ -60,16 +58,16 @@ on_known n (Some e) b = both_false (nat_le n e) false (at_most_not n e (b e refl
 equal_not : (a b : ℕ) → a ≢ b → nat_eq a b ≡ false
 equal_not a b ne = false_from_ne_true (nat_eq a b) (λ t. ne (eqb-true a b t))
 
-no_edges : (k : EdgeKind) (on : Option ℕ) (n : ℕ) → length (edges_from_some k on n) ≤ 1
-no_edges k None n = lit≤ tt
-no_edges k (Some e) n = lit≤ tt
+no_edges : (on : Option ℕ) (n : ℕ) → length (on_edges (on_lines on) n) ≤ 1
+no_edges None n = lit≤ tt
+no_edges (Some e) n = lit≤ tt
 
 edges_few : (ls : List Line) (v : Verb) (on : Option ℕ) → length (verb_edges ls (length ls) v) ≤ 1 → length (line_edges ls (made_line 0 v on)) ≤ 2
 edges_few ls v on h =
-    let both : length (line_edges ls (made_line 0 v on)) ≡ length (edges_from_some Passes on (length ls)) + length (verb_edges ls (length ls) v) = length-append (edges_from_some Passes on (length ls)) (verb_edges ls (length ls) v) in
-    let one : length (edges_from_some Passes on (length ls)) ≤ 1 = no_edges Passes on (length ls) in omega arith
+    let both : length (line_edges ls (made_line 0 v on)) ≡ length (on_edges (on_lines on) (length ls)) + length (verb_edges ls (length ls) v) = length-append (on_edges (on_lines on) (length ls)) (verb_edges ls (length ls) v) in
+    let one : length (on_edges (on_lines on) (length ls)) ≤ 1 = no_edges on (length ls) in omega arith
 
-on_size : (ls : List Line) (on : Option ℕ) → Standing ls → length ls ≤ 8192 → Before (length ls) on → Sized (on_words (lined ls) on) 10
+on_size : (ls : List Line) (on : Option ℕ) → Standing ls → length ls ≤ 8192 → Before (length ls) on → Sized (on_words (lined ls) (on_lines on)) 10
 on_size ls None st few b = record { size = lit≤ tt }
 on_size ls (Some e) st few b = size_cons (codes "on") (line_name (lined ls) e ∷ []) 2 7 (lit≤ tt) (size_cons (line_name (lined ls) e) [] 6 0 (name_size ls e st (b e refl) few) size_none)
 
@@ -78,14 +76,14 @@ value_size v h = decimal_short 5 v (omega arith) (omega arith) (omega arith)
 
 -- a line fits by what is shown of it
 fits_by : (ls : List Line) (v : Verb) (on : Option ℕ) → against ls v on ≡ false → repeats nat_eq (map (λ (a : Access). a.column) (verb_accesses v)) ≡ false → line_unknown (lined ls) (made_line 0 v on) ≡ false
-    → list_any (access_outside (lined ls)) (verb_accesses v) ≡ false → Sized (verb_words (lined ls) v ++ on_words (lined ls) on) 60 → length (line_edges ls (made_line 0 v on)) ≤ 2 → IsVerb v
+    → list_any (access_outside (lined ls)) (verb_accesses v) ≡ false → Sized (verb_words (lined ls) v ++ on_words (lined ls) (on_lines on)) 60 → length (line_edges ls (made_line 0 v on)) ≤ 2 → IsVerb v
     → ((k : ℕ) → length ls < k → (ends_user k v || is_release_of k v) ≡ false) → NextFits ls v on
 fits_by ls v on clear apart known within words few_edges values ends_none_later =
     record { clear = clear; apart = apart; known = known; within = within; words = words; few_edges = few_edges; values = values; ends_none_later = ends_none_later }
 
 module _ (ls : List Line) (st : Standing ls) (few : length ls ≤ 8192) where
   module _ (on : Option ℕ) (b : Before (length ls) on) where
-    on_rest : Sized (on_words (lined ls) on) 10
+    on_rest : Sized (on_words (lined ls) (on_lines on)) 10
     on_rest = on_size ls on st few b
 
     -- a line of one access, and of two

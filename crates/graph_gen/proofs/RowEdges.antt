@@ -11,13 +11,12 @@ use Rattle.graph_terms.specs.declared.verb.Line.{Line}
 use Rattle.graph_terms.specs.declared.verb.Verb.{Verb}
 use Rattle.graph_terms.specs.declared.verb.Verb.TheVariants as verb
 use Rattle.graph_terms.specs.declared.table.Kernel.TheVariants as kernel
-use Rattle.graph_terms.specs.Edges.{edge, edges_from_some, verb_edges, edges_after}
-use Rattle.graph_terms.specs.Fits.{on_lines}
+use Rattle.graph_terms.specs.Edges.{edge, on_edges, verb_edges, edges_after}
 use Rattle.basics.proofs.ListFacts.{contains_cases, contains_none, contains_map, map_contains}
 use Rattle.graph_gen.specs.declared.draw.Row.{Row}
 use Rattle.graph_gen.specs.declared.draw.Row.TheVariants.{Fill, Iota, Expect, Settle, Copy, Sum, Event, Section}
 use Rattle.graph_gen.specs.declared.draw.Draw.{Draw}
-use Rattle.graph_gen.specs.MadeGraph.{last_of, merged, made_line, row_lines, total_column}
+use Rattle.graph_gen.specs.MadeGraph.{last_of, merged, on_lines, made_line, row_lines, total_column}
 use Rattle.graph_gen.proofs.AddedLines.{edges_in, edge_new}
 use Rattle.graph_gen.proofs.Rows.{one_longer}
 
@@ -44,10 +43,6 @@ inner_edges Event n = edge (n + 1) n Passes ∷ []
 inner_edges Section n = edge n (n + 1) Passes ∷ edge (n + 1) (n + 2) Ignores ∷ edge (n + 2) (n + 3) Passes ∷ []
 inner_edges _ n = []
 
-from_lines : (kind : EdgeKind) (o : Option ℕ) (n : ℕ) → edges_from_some kind o n ≡ map (λ e. edge e n kind) (on_lines o)
-from_lines kind None n = refl
-from_lines kind (Some e) n = refl
-
 longer_twice : (ls : List Line) (k l : Line) → length ((ls ++ k ∷ []) ++ l ∷ []) ≡ length ls + 2
 longer_twice ls k l = let e = one_longer ls k in let f = one_longer (ls ++ k ∷ []) l in omega arith
 
@@ -56,8 +51,7 @@ longer_thrice ls j k l = let e = longer_twice ls j k in let f = one_longer ((ls 
 
 one_edges : (ls : List Line) (v : Verb) (o : Option ℕ) → verb_edges ls (length ls) v ≡ [] → edges_after ls (made_line (length ls) v o ∷ []) ≡ map (λ e. edge e (length ls) Passes) (on_lines o) ++ []
 one_edges ls v o h =
-    ap (λ es. (edges_from_some Passes o (length ls) ++ es) ++ []) h
-    ∙ (ap (λ es. es ++ []) (append-nil (edges_from_some Passes o (length ls))) ∙ ap (λ es. es ++ []) (from_lines Passes o (length ls)))
+    ap (λ es. (on_edges (on_lines o) (length ls) ++ es) ++ []) h ∙ ap (λ es. es ++ []) (append-nil (on_edges (on_lines o) (length ls)))
 
 joined_edges : (ls : List Line) (v : Verb) (es : List ℕ) → ((b : List Line) (i : ℕ) → verb_edges b i v ≡ []) →
     edges_after ls (made_line (length ls) (verb.Merge es) None ∷ made_line (length ls + 1) v (Some (length ls)) ∷ []) ≡ map (λ e. edge e (length ls) Passes) es ++ edge (length ls) (length ls + 1) Passes ∷ []
@@ -72,9 +66,8 @@ joined_edges ls v es h =
 
 event_edges : (ls : List Line) (o : Option ℕ) → edges_after ls (made_line (length ls) verb.User None ∷ made_line (length ls + 1) (verb.Trigger (length ls)) o ∷ []) ≡ map (λ e. edge e (length ls + 1) Passes) (on_lines o) ++ edge (length ls + 1) (length ls) Passes ∷ []
 event_edges ls o =
-    append-nil (edges_from_some Passes o (length (ls ++ made_line (length ls) verb.User None ∷ [])) ++ edge (length (ls ++ made_line (length ls) verb.User None ∷ [])) (length ls) Passes ∷ [])
-    ∙ (ap (λ k. edges_from_some Passes o k ++ edge k (length ls) Passes ∷ []) (one_longer ls (made_line (length ls) verb.User None))
-    ∙ ap (λ es. es ++ edge (length ls + 1) (length ls) Passes ∷ []) (from_lines Passes o (length ls + 1)))
+    append-nil (on_edges (on_lines o) (length (ls ++ made_line (length ls) verb.User None ∷ [])) ++ edge (length (ls ++ made_line (length ls) verb.User None ∷ [])) (length ls) Passes ∷ [])
+    ∙ ap (λ k. on_edges (on_lines o) k ++ edge k (length ls) Passes ∷ []) (one_longer ls (made_line (length ls) verb.User None))
 
 section_edges : (ls : List Line) (d : Draw) (lasts : List (Option ℕ)) → edges_after ls (row_lines Section d lasts (length ls)) ≡ map (λ e. edge e (length ls) Passes) (on_lines (last_of lasts d.column)) ++ inner_edges Section (length ls)
 section_edges ls d lasts =
@@ -83,7 +76,7 @@ section_edges ls d lasts =
     let a : Line = made_line n (verb.Acquire 0 false) o in
     let s : Line = made_line (n + 1) (verb.Reduce op.Sum d.column total_column 0) (Some n) in
     let m : Line = made_line (n + 2) (verb.MergeIgnore ((n + 1) ∷ [])) None in
-    ap (λ es. es ++ edge n (length (ls ++ a ∷ [])) Passes ∷ edge (n + 1) (length ((ls ++ a ∷ []) ++ s ∷ [])) Ignores ∷ edge (n + 2) (length (((ls ++ a ∷ []) ++ s ∷ []) ++ m ∷ [])) Passes ∷ []) (append-nil (edges_from_some Passes o n) ∙ from_lines Passes o n)
+    ap (λ es. es ++ edge n (length (ls ++ a ∷ [])) Passes ∷ edge (n + 1) (length ((ls ++ a ∷ []) ++ s ∷ [])) Ignores ∷ edge (n + 2) (length (((ls ++ a ∷ []) ++ s ∷ []) ++ m ∷ [])) Passes ∷ []) (append-nil (on_edges (on_lines o) n))
     ∙ (ap (λ k. map (λ e. edge e n Passes) (on_lines o) ++ edge n k Passes ∷ edge (n + 1) (length ((ls ++ a ∷ []) ++ s ∷ [])) Ignores ∷ edge (n + 2) (length (((ls ++ a ∷ []) ++ s ∷ []) ++ m ∷ [])) Passes ∷ []) (one_longer ls a)
     ∙ (ap (λ k. map (λ e. edge e n Passes) (on_lines o) ++ edge n (n + 1) Passes ∷ edge (n + 1) k Ignores ∷ edge (n + 2) (length (((ls ++ a ∷ []) ++ s ∷ []) ++ m ∷ [])) Passes ∷ []) (longer_twice ls a s)
     ∙ ap (λ k. map (λ e. edge e n Passes) (on_lines o) ++ edge n (n + 1) Passes ∷ edge (n + 1) (n + 2) Ignores ∷ edge (n + 2) k Passes ∷ []) (longer_thrice ls a s m)))

@@ -1,6 +1,6 @@
 -- What stands while a graph is made, and a line more.
 use Rattle.std.proofs.Common.{◌≡◌, ℕ, zero, suc, ◌+◌, ◌*◌, ◌^◌, ◌<◌, ◌≤◌, Bool, false, ◌&&◌, ◌||◌, List, [], ◌∷◌, ◌++◌, length, map, refl, sym, ◌∙◌, ap, subst, append_assoc, append-nil, length-append, arith, lit≤}
-use Rattle.std.specs.Prelude.{Option, None, nat_eq, nat_lt, is_some, slice_get}
+use Rattle.std.specs.Prelude.{Option, Some, None, true, nat_eq, nat_lt, is_some, slice_get}
 use Rattle.std.specs.Option.{option_map_or}
 use Rattle.std.specs.List.{list_any}
 use Rattle.std.specs.Str.{bytes_eq}
@@ -9,6 +9,7 @@ use Rattle.std.proofs.lemmas.List.Folds.{list_any-append}
 use Rattle.std.proofs.lemmas.List.Sums.{sum_by-cons}
 use Rattle.graph_terms.specs.declared.verb.Access.{Access}
 use Rattle.graph_terms.specs.declared.format.Format.TheVariants.{One}
+use Rattle.graph_terms.specs.declared.limits.TheConstants.{MAX_EVENTS}
 use Rattle.graph_terms.specs.declared.verb.Line.{Line}
 use Rattle.graph_terms.specs.declared.why.Why.TheVariants as why
 use Rattle.graph_terms.specs.declared.verb.Verb.{Verb}
@@ -16,11 +17,11 @@ use Rattle.graph_terms.specs.Graph.{GraphValue, ends_user, is_release_of}
 use Rattle.graph_terms.specs.Access.{verb_accesses}
 use Rattle.graph_indexes.specs.Counts.{words_size}
 use Rattle.graph_terms.specs.Edges.{edges, line_edges}
-use Rattle.graph_terms.specs.Fits.{first_reason, repeats, is_used, with_line, is_beyond, verb_repeats, line_unknown, verb_unlike, takes_no_on, format_lacks, verb_misnumbered, access_outside, arrives_late, merges_many, line_fault, IsVerb, IsLine, LinesFit}
+use Rattle.graph_terms.specs.Fits.{first_reason, repeats, is_used, with_line, is_beyond, verb_repeats, line_unknown, verb_unlike, takes_no_on, on_unlike, format_lacks, verb_misnumbered, access_outside, arrives_late, merged_events, names_many, line_fault, IsVerb, IsLine, LinesFit}
 use Rattle.graph_terms.specs.Spelling.{spelled, verb_words, on_words, line_words, line_name, head}
 use Rattle.graph_model.proofs.CountLaws.{spelled_size}
 use Rattle.graph_terms.proofs.Public.{head_with_line, edges_push, long_names}
-use Rattle.graph_gen.specs.MadeGraph.{made_decls, made_name, made_line}
+use Rattle.graph_gen.specs.MadeGraph.{made_decls, made_name, on_lines, made_line}
 use Rattle.graph_gen.proofs.LineNames.{made_is_name, made_differ, made_short}
 
 -- a generated graph with these lines
@@ -32,6 +33,19 @@ both_false a b e f = ap (λ x. x || b) e ∙ f
 
 pub not_less : (a b : ℕ) → b ≤ a → nat_lt a b ≡ false
 not_less a b h = false_from_ne_true (nat_lt a b) (λ e. let l : a < b = ltb-true a b e in omega arith)
+
+-- one event behind `on` is named once, and is what a verb of format 1 may take
+on_once : (on : Option ℕ) → repeats nat_eq (on_lines on) ≡ false
+on_once None = refl
+on_once (Some e) = refl
+
+on_is_like : (v : Verb) (on : Option ℕ) → (takes_no_on v && is_some on) ≡ false → on_unlike One v (on_lines on) ≡ false
+on_is_like v None h = both_false (takes_no_on v && false) false h refl
+on_is_like v (Some e) h = both_false (takes_no_on v && true) false h refl
+
+on_is_few : (v : Verb) (on : Option ℕ) → nat_lt MAX_EVENTS (length (merged_events v)) ≡ false → names_many One v (on_lines on) ≡ false
+on_is_few v None h = both_false (nat_lt MAX_EVENTS (length (merged_events v))) false h refl
+on_is_few v (Some e) h = both_false (nat_lt MAX_EVENTS (length (merged_events v))) false h refl
 
 -- the lines are named by their numbers, the first of which is n
 abbrev pub Numbered : ℕ → List Line → Type 0
@@ -67,7 +81,7 @@ pub record Sized (ws : List (List ℕ)) (n : ℕ) : Type 0 where
 
 -- what may be said against a line besides its name, its columns and the lines that it names
 abbrev pub against : List Line → Verb → Option ℕ → Bool
-against ls v on = verb_repeats (lined ls) v || (verb_unlike (lined ls) v || ((takes_no_on v && is_some on) || (format_lacks One v || (verb_misnumbered One v || (arrives_late (lined ls) v || merges_many v)))))
+against ls v on = verb_repeats (lined ls) v || (verb_unlike (lined ls) v || ((takes_no_on v && is_some on) || (format_lacks One v || (verb_misnumbered One v || (arrives_late (lined ls) v || nat_lt MAX_EVENTS (length (merged_events v)))))))
 
 -- what holds of a line that may come next
 pub record NextFits (ls : List Line) (v : Verb) (on : Option ℕ) : Type 0 where
@@ -75,7 +89,7 @@ pub record NextFits (ls : List Line) (v : Verb) (on : Option ℕ) : Type 0 where
   pub apart : repeats nat_eq (map (λ (a : Access). a.column) (verb_accesses v)) ≡ false
   pub known : line_unknown (lined ls) (made_line 0 v on) ≡ false
   pub within : list_any (access_outside (lined ls)) (verb_accesses v) ≡ false
-  pub words : Sized (verb_words (lined ls) v ++ on_words (lined ls) on) 60
+  pub words : Sized (verb_words (lined ls) v ++ on_words (lined ls) (on_lines on)) 60
   pub few_edges : length (line_edges ls (made_line 0 v on)) ≤ 2
   pub values : IsVerb v
   pub ends_none_later : (k : ℕ) → length ls < k → (ends_user k v || is_release_of k v) ≡ false
@@ -115,7 +129,7 @@ module _ (ls : List Line) (n : ℕ) (v : Verb) (on : Option ℕ) (count : length
 
   line_size : length (spelled (line_words (lined ls) next)) ≤ 100
   line_size =
-      let rest : List (List ℕ) = verb_words (lined ls) v ++ on_words (lined ls) on in
+      let rest : List (List ℕ) = verb_words (lined ls) v ++ on_words (lined ls) (on_lines on) in
       let all : length (spelled (line_words (lined ls) next)) ≡ words_size (line_words (lined ls) next) = spelled_size (made_name n) ((61 ∷ []) ∷ rest) in
       let sized : Sized (made_name n ∷ (61 ∷ []) ∷ rest) (suc 6 + (suc 1 + 60)) = size_cons (made_name n) ((61 ∷ []) ∷ rest) 6 (suc 1 + 60) (made_short n (omega arith)) (size_cons (61 ∷ []) rest 1 60 (lit≤ tt) fits.words) in
       subst (λ x. x ≤ 100) (sym all) (within_hundred (words_size (made_name n ∷ (61 ∷ []) ∷ rest)) (suc 6 + (suc 1 + 60)) sized.size (lit≤ tt))
@@ -170,11 +184,13 @@ module _ (ls : List Line) (n : ℕ) (v : Verb) (on : Option ℕ) (count : length
       let bare = or_parts (takes_no_on v && is_some on) _ unlike.1 in
       let there = or_parts (format_lacks One v) _ bare.1 in
       let counted = or_parts (verb_misnumbered One v) _ there.1 in
-      let late = or_parts (arrives_late (lined ls) v) (merges_many v) counted.1 in
-      seven_false (is_used (lined ls) (made_name n) || (verb_repeats (lined ls) v || repeats nat_eq (map (λ (a : Access). a.column) (verb_accesses v)))) (line_unknown (lined ls) next) (verb_unlike (lined ls) v || ((takes_no_on v && is_some on) || format_lacks One v)) (verb_misnumbered One v)
-      (list_any (access_outside (lined ls)) (verb_accesses v)) (arrives_late (lined ls) v) (merges_many v || is_beyond (with_line (lined ls) next))
-      (both_false (is_used (lined ls) (made_name n)) (verb_repeats (lined ls) v || repeats nat_eq (map (λ (a : Access). a.column) (verb_accesses v))) unused_name (both_false (verb_repeats (lined ls) v) (repeats nat_eq (map (λ (a : Access). a.column) (verb_accesses v))) repeated.0 fits.apart))
-      fits.known (both_false (verb_unlike (lined ls) v) ((takes_no_on v && is_some on) || format_lacks One v) unlike.0 (both_false (takes_no_on v && is_some on) (format_lacks One v) bare.0 there.0)) counted.0 fits.within late.0 (both_false (merges_many v) (is_beyond (with_line (lined ls) next)) late.1 beyond_not)
+      let late = or_parts (arrives_late (lined ls) v) (nat_lt MAX_EVENTS (length (merged_events v))) counted.1 in
+      let apart : Bool = repeats nat_eq (map (λ (a : Access). a.column) (verb_accesses v)) in
+      let alike : on_unlike One v (on_lines on) ≡ false = on_is_like v on bare.0 in
+      seven_false (is_used (lined ls) (made_name n) || (verb_repeats (lined ls) v || (apart || repeats nat_eq (on_lines on)))) (line_unknown (lined ls) next) (verb_unlike (lined ls) v || (on_unlike One v (on_lines on) || format_lacks One v)) (verb_misnumbered One v)
+      (list_any (access_outside (lined ls)) (verb_accesses v)) (arrives_late (lined ls) v) (names_many One v (on_lines on) || is_beyond (with_line (lined ls) next))
+      (both_false (is_used (lined ls) (made_name n)) _ unused_name (both_false (verb_repeats (lined ls) v) _ repeated.0 (both_false apart (repeats nat_eq (on_lines on)) fits.apart (on_once on))))
+      fits.known (both_false (verb_unlike (lined ls) v) _ unlike.0 (both_false (on_unlike One v (on_lines on)) (format_lacks One v) alike there.0)) counted.0 fits.within late.0 (both_false (names_many One v (on_lines on)) (is_beyond (with_line (lined ls) next)) (on_is_few v on late.1) beyond_not)
 
   next_is_line : IsLine next
   next_is_line = record { named = long_names (made_name n) (made_is_name n (omega arith)); values = fits.values }

@@ -75,9 +75,14 @@ merged None (Some f) = f ∷ []
 merged (Some e) None = e ∷ []
 merged (Some e) (Some f) = cond (e == f) (e ∷ []) (e ∷ f ∷ [])
 
+-- the event behind `on`, where there is one
+abbrev pub on_lines : Option ℕ → List ℕ
+on_lines None = []
+on_lines (Some e) = e ∷ []
+
 -- the line of this number
 abbrev pub made_line : ℕ → Verb → Option ℕ → Line
-made_line n verb on = record { name = made_name n; «verb» = verb; «on» = on }
+made_line n verb on = record { name = made_name n; «verb» = verb; «on» = on_lines on }
 
 -- the lines of a row, the first having number n
 abbrev pub row_lines : Row → Draw → List (Option ℕ) → ℕ → List Line

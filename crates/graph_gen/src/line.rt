@@ -1,8 +1,9 @@
 //! Lines with their names.
 
 ghost use Rattle.std.specs.Prelude.{◌≡◌, ◌++◌, [], ◌∷◌, OnOk, IfOk};
-ghost use Rattle.graph_gen.specs.MadeGraph.{made_name, made_line};
+ghost use Rattle.graph_gen.specs.MadeGraph.{made_name, made_line, on_lines};
 
+use graph_terms::lists::EventList;
 use graph_terms::name::Name;
 use graph_terms::verb::{Line, Verb};
 use index_spaces::NoMemory;
@@ -20,7 +21,19 @@ pub(crate) fn put_line(
     ensures { OnOk result (lines.new.items ≡ lines.old.items ++ made_line number verb on ∷ []) }
 {
     let name = made_name(alloc, number)?;
+    let on = on_lines(alloc, on)?;
     push(lines, Line { name, verb, on })
+}
+
+/// The event behind `on`, where there is one.
+fn on_lines(alloc: Global, on: Option<u32>) -> Result<EventList, NoMemory>
+    ensures { IfOk result (λ list. list ≡ on_lines on) }
+{
+    let mut events = EventList::new(alloc);
+    if let Some(event) = on {
+        events.push(event)?;
+    }
+    Ok(events)
 }
 
 /// The name of the line of this number.

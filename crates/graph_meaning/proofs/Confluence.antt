@@ -10,7 +10,7 @@ use Rattle.index_spaces.specs.Space.{has_point}
 use Rattle.graph_terms.specs.declared.outcome.Verdict.{Verdict}
 use Rattle.graph_terms.specs.declared.outcome.Verdict.TheVariants.{Fine, Fault}
 use Rattle.graph_terms.specs.declared.format.Format.{Format}
-use Rattle.graph_terms.specs.declared.format.Format.TheVariants.{One, Two}
+use Rattle.graph_terms.specs.declared.format.Format.TheVariants.{One}
 use Rattle.graph_terms.specs.declared.verb.Access.{Access}
 use Rattle.graph_terms.specs.declared.verb.Edge.{Edge}
 use Rattle.graph_terms.specs.declared.verb.Mode.{Mode}
@@ -22,7 +22,7 @@ use Rattle.graph_meaning.specs.Path.{HasPath}
 use Rattle.graph_terms.specs.Access.{accesses, verb_accesses, in_format, or_write, mode_in, is_reduction, modes_clash, AccessesConflict}
 use Rattle.graph_meaning.specs.Rules.{Accepted}
 use Rattle.graph_meaning.specs.Effect.{Cells, zero_cells, Change, CellChange, cells_after, Effect, Effects, effect, verb_changes, verb_verdict, touches, Untouched}
-use Rattle.graph_meaning.specs.Evaluation.{Step, has_ended, changes_in, cells_with, cells_of, is_cancelled, made_by, step_by, step_with, lowest_ready, advance_by_with, steps_with, steps_after, evaluation_with, evaluation, order_with, changes_with, eval_changes, cells_by_with, cells_of_lines_with, cells_of_lines}
+use Rattle.graph_meaning.specs.Evaluation.{Step, has_ended, changes_in, cells_with, cells_of, is_cancelled, made_by, step_by, step_with, lowest_ready, advance_by_with, steps_with, evaluation_with, evaluation, order_with, changes_with, eval_changes, cells_by_with, cells_of_lines_with, cells_of_lines}
 use Rattle.graph_meaning.specs.Laws.{FitsMode, IsWithinAccess, IsReadyAmongWith, IsReadyAmong, KeepsToAccesses, CellsByAllLines}
 use Rattle.basics.proofs.ListFacts.{contains_none, contains_here, contains_there, contains_map, some_passes, passes_some, map_contains, filter_contains}
 use Rattle.graph_meaning.proofs.PathLaws.{back_path}

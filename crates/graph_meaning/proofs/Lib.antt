@@ -13,6 +13,7 @@ pub mod Confluence
 pub mod GraphLaws
 pub mod RulesTable
 pub mod LaterFormats
+pub mod MergedEvents
 pub mod OrderLaws
 pub mod LineFacts
 pub mod HeldCellsLaws

@@ -106,9 +106,10 @@ columns_by g f i j k a b None at l e h = absurd (none-some a e)
 columns_by g f i j k a b (Some x) at l e h =
     let fit = fit_at g.format g.decls [] g.lines f.lines i x at in
     let g' : GraphValue = record { format = g.format; decls = g.decls; lines = fit.0 } in
-    let once : (is_used g' x.name || (verb_repeats g' x.verb || repeats nat_eq (map (λ (a : Access). a.column) (verb_accesses x.verb)))) ≡ false =
-    none_first (line_tests g' x) fit.1 (is_used g' x.name || (verb_repeats g' x.verb || repeats nat_eq (map (λ (a : Access). a.column) (verb_accesses x.verb))), why.Twice) (0, omega arith, refl) in
-    let apart_columns : repeats nat_eq (map (λ (a : Access). a.column) (verb_accesses x.verb)) ≡ false = (or_parts _ _ (or_parts _ _ once).1).1 in
+    let own : Bool = repeats nat_eq (map (λ (a : Access). a.column) (verb_accesses x.verb)) || repeats nat_eq x.on in
+    let once : (is_used g' x.name || (verb_repeats g' x.verb || own)) ≡ false =
+    none_first (line_tests g' x) fit.1 (is_used g' x.name || (verb_repeats g' x.verb || own), why.Twice) (0, omega arith, refl) in
+    let apart_columns : repeats nat_eq (map (λ (a : Access). a.column) (verb_accesses x.verb)) ≡ false = (or_parts _ _ (or_parts _ _ (or_parts _ _ once).1).1).0 in
     apart (map (λ (a : Access). a.column) (verb_accesses x.verb)) j k a.column b.column apart_columns l (slice_get-map (λ (a : Access). a.column) (verb_accesses x.verb) j ∙ ap (option_map (λ (a : Access). a.column)) e)
     (slice_get-map (λ (a : Access). a.column) (verb_accesses x.verb) k ∙ ap (option_map (λ (a : Access). a.column)) h)
 

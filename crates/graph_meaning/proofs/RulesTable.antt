@@ -1,6 +1,6 @@
 -- Whether a graph is accepted, by computing: where the test passes, the six rules hold.
 use Rattle.std.proofs.Common.{◌≡◌, ℕ, zero, suc, ◌+◌, ◌-◌, ◌<◌, ◌≤◌, Bool, true, false, not, ◌&&◌, ◌||◌, inl, inr, List, [], ◌∷◌, length, refl, sym, ◌∙◌, ap, subst, arith}
-use Rattle.std.specs.Prelude.{◌≢◌, Contains, Option, Some, None, IsTrue, ◌==◌, nat_lt, nat_le, option_and_then, option_map, slice_get}
+use Rattle.std.specs.Prelude.{◌≢◌, Contains, Option, Some, None, ◌==◌, nat_lt, nat_le, option_and_then, option_map, slice_get}
 use Rattle.std.specs.Option.{option_map_or}
 use Rattle.std.specs.List.{list_any, list_all}
 use Rattle.std.proofs.lemmas.Bool.{true≢false, eq-eqb, eqb-true, or_cases, and_parts, and_from, not-true, lt-ltb, ltb-true, leb-true}
@@ -12,12 +12,12 @@ use Rattle.graph_terms.specs.declared.verb.Access.{Access}
 use Rattle.graph_terms.specs.declared.verb.Line.{Line}
 use Rattle.graph_terms.specs.declared.verb.Verb.{Verb}
 use Rattle.graph_terms.specs.declared.verb.Verb.TheVariants.{Acquire}
-use Rattle.graph_terms.specs.Graph.{GraphValue, verb_at, line_passes, is_phase, is_acquire_of, is_release_of, is_merge_ignore, never_comes, space_at}
+use Rattle.graph_terms.specs.Graph.{GraphValue, verb_at, line_passes, is_phase, is_acquire_of, is_release_of, never_comes, space_at}
 use Rattle.graph_terms.specs.Edges.{edges}
 use Rattle.graph_meaning.specs.Path.{HasPath}
 use Rattle.graph_terms.specs.Access.{accesses, verb_accesses, in_format, modes_clash, AccessesConflict, Conflict}
 use Rattle.graph_terms.specs.Reservations.{Acquires, Releases, both_shared, taken_by, freed_by, lock_at, acquire_at, is_lower}
-use Rattle.graph_meaning.specs.Rules.{Section, modes_commute, Exempt, NoCycleAt, ReleasedAt, SectionAt, DescendsAt, ReleaseFaultAt, RaceAt, Everywhere, EverywhereTwice, FailsFirst, FailsFirstTwice, Accepted, IsRace}
+use Rattle.graph_meaning.specs.Rules.{Section, modes_commute, Exempt, NoCycleAt, ReleasedAt, SectionAt, DescendsAt, stands_on_merges, ReleaseFaultAt, RaceAt, Everywhere, EverywhereTwice, FailsFirst, FailsFirstTwice, Accepted, IsRace}
 use Rattle.graph_terms.proofs.Public.{release_of_is, acquire_is, release_is, passes_below}
 use Rattle.basics.proofs.ListFacts.{contains_none, map_contains, contains_from, contains_below, passes_each, some_passes, passes_some}
 use Rattle.graph_meaning.proofs.PathTable.{has_path, edges_below, range_by, path_is_bit, path_by_table, path_below, acyclic_by_table}
@@ -93,12 +93,8 @@ section_test g i j = section_test_of g i j (acquire_at g i)
 abbrev pub descends_test : GraphValue → ℕ → ℕ → Bool
 descends_test g i j = implies (in_section g i j) (is_lower (lock_at g i) (lock_at g j))
 
-abbrev pub stands_on_merge : GraphValue → Option ℕ → Bool
-stands_on_merge g None = false
-stands_on_merge g (Some m) = line_passes is_merge_ignore g m
-
 abbrev pub line_release_test : GraphValue → Line → Bool
-line_release_test g l = implies (is_locked (freed_by l.verb)) (stands_on_merge g l.on)
+line_release_test g l = implies (is_locked (freed_by l.verb)) (stands_on_merges g l.on)
 
 abbrev pub release_fault_test : GraphValue → ℕ → Bool
 release_fault_test g i = option_map_or (line_release_test g) (slice_get g.lines i) true
@@ -189,14 +185,10 @@ module _ (g : GraphValue) (range : edges_below (length g.lines) (edges g) ≡ tr
       let at : is_lower (Some l) (Some k) ≡ true = ap (λ o. is_lower o (Some k)) (sym (acquires_lock g i l s.acquires)) ∙ (ap (is_lower (lock_at g i)) (sym (acquires_lock g j k a)) ∙ lower) in
       ltb-true l k at
 
-  merge_from : (o : Option ℕ) → stands_on_merge g o ≡ true → (m : ℕ) × (o ≡ Some m) × IsTrue (line_passes is_merge_ignore g m)
-  merge_from None h = absurd (true≢false (sym h))
-  merge_from (Some m) h = (m, refl, h)
-
   pub release_fault_holds : (i : ℕ) → (i < length g.lines → release_fault_test g i ≡ true) → ReleaseFaultAt g i
   release_fault_holds i t q l at r =
       let test : line_release_test g l ≡ true = ap (λ (o : Option Line). option_map_or (line_release_test g) o true) (sym at) ∙ t (slice_get_within g.lines i l at) in
-      merge_from l.on (implied (is_locked (freed_by l.verb)) (stands_on_merge g l.on) test (ap (λ v. is_locked (freed_by v)) (release_of_is q l.verb r)))
+      implied (is_locked (freed_by l.verb)) (stands_on_merges g l.on) test (ap (λ v. is_locked (freed_by v)) (release_of_is q l.verb r))
 
   same_lock_from : (o p : Option ℕ) → same_lock o p ≡ true → (l : ℕ) × (o ≡ Some l) × (p ≡ Some l)
   same_lock_from (Some l) (Some k) h = (l, refl, ap Some (sym (eqb-true l k h)))

@@ -1,9 +1,11 @@
 -- What holds of all graphs whose items fit.
-use Rattle.std.specs.Prelude.{◌≡◌, ◌≢◌, ℕ, ◌<◌, ◌==◌, ◌⊎◌, ◌↔◌, Bool, true, false, ◌||◌, List, length, AllPairs, Contains, IsTrue, ◌++◌, [], ◌∷◌, Some}
+use Rattle.std.specs.Prelude.{◌≡◌, ◌≢◌, ℕ, ◌<◌, ◌==◌, ◌⊎◌, ◌↔◌, Bool, true, false, ◌||◌, List, length, AllPairs, Contains, IsTrue, ◌++◌, [], ◌∷◌, Some, slice_get}
 use Rattle.index_spaces.specs.Space.{has_point, points}
 use Rattle.graph_terms.specs.declared.outcome.End.TheVariants.{Cancelled, Waiting}
 use Rattle.graph_terms.specs.declared.verb.Access.{Access}
 use Rattle.graph_terms.specs.declared.verb.Edge.{Edge}
+use Rattle.graph_terms.specs.declared.verb.Line.{Line}
+use Rattle.graph_terms.specs.declared.verb.Verb.TheVariants.{Merge}
 use Rattle.graph_terms.specs.declared.verb.Mode.{Mode}
 use Rattle.graph_terms.specs.declared.verb.Mode.TheVariants.{Read, Write, Sum, Least, Most}
 use Rattle.graph_terms.specs.declared.format.Format.{Format}
@@ -185,6 +187,19 @@ LaterFormatsKeepMeaning = (f : Format) (g : GraphValue) → has_since g.format f
 -- so the graph that an upgrade writes does
 abbrev pub UpgradeKeepsMeaning : Type 0
 UpgradeKeepsMeaning = (g : GraphValue) → KeepsMeaning g (upgraded g)
+
+-- a graph with other lines, and a line with other events behind `on`
+abbrev pub with_lines : GraphValue → List Line → GraphValue
+with_lines g ls = record { format = g.format; decls = g.decls; lines = ls }
+
+abbrev pub waiting_for : List ℕ → Line → Line
+waiting_for events l = record { name = l.name; verb = l.verb; «on» = events }
+
+-- the evaluation is the same where a line waits for a merge, given above it, of the events behind its `on`
+abbrev pub OnIsAsAMerge : Type 0
+OnIsAsAMerge = (g : GraphValue) (before after : List Line) (l merge : Line) (m : ℕ) →
+    IsGraph (with_lines g (before ++ l ∷ after)) → slice_get before m ≡ Some merge → merge.verb ≡ Merge l.on → merge.on ≡ [] →
+    evaluation (with_lines g (before ++ waiting_for (m ∷ []) l ∷ after)) ≡ evaluation (with_lines g (before ++ l ∷ after))
 
 -- without cycles each line that has not ended has a ready line before it, or one that never comes
 abbrev pub ReadyOrNeverBefore : Type 0

@@ -1,5 +1,6 @@
 -- When a graph is accepted: six rules, and for each the least numbers at which it fails.
-use Rattle.std.specs.Prelude.{◌≡◌, ◌≢◌, ℕ, ◌<◌, ◌⊎◌, Bool, true, false, Contains, IsTrue, Some, slice_get}
+use Rattle.std.specs.Prelude.{◌≡◌, ◌≢◌, ℕ, ◌<◌, ◌⊎◌, nat_lt, Bool, true, false, ◌&&◌, List, length, Contains, IsTrue, Some, slice_get}
+use Rattle.std.specs.List.{list_all}
 use Rattle.graph_terms.specs.declared.verb.Access.{Access}
 use Rattle.graph_terms.specs.declared.verb.Line.{Line}
 use Rattle.graph_terms.specs.declared.verb.Mode.{Mode}
@@ -52,10 +53,13 @@ SectionAt g i j = (q : ℕ) → Releases g i q → HasPath g j i →
 abbrev pub DescendsAt : GraphValue → ℕ → ℕ → Type 0
 DescendsAt g i j = (l k : ℕ) → Section g l i j → Acquires g j k → l < k
 
--- a release stands on a merge that ignores faults
+-- there are events behind `on`, and each is a merge that ignores faults
+abbrev pub stands_on_merges : GraphValue → List ℕ → Bool
+stands_on_merges g on = nat_lt 0 (length on) && list_all (line_passes is_merge_ignore g) on
+
+-- a release stands on merges that ignore faults, and on no other event
 abbrev pub ReleaseFaultAt : GraphValue → ℕ → Type 0
-ReleaseFaultAt g i = (q : ℕ) (l : Line) → slice_get g.lines i ≡ Some l → IsTrue (is_release_of q l.verb) →
-    (m : ℕ) × (l.on ≡ Some m) × IsTrue (line_passes is_merge_ignore g m)
+ReleaseFaultAt g i = (q : ℕ) (l : Line) → slice_get g.lines i ≡ Some l → IsTrue (is_release_of q l.verb) → IsTrue (stands_on_merges g l.on)
 
 -- two lines that conflict have a path one way or the other, or are exempt
 abbrev pub RaceAt : GraphValue → ℕ → ℕ → Type 0

@@ -2,7 +2,7 @@
 use Rattle.std.specs.Prelude.{◌≡◌, ℕ, ◌<◌, Bool, true, false, List, Contains, length, ◌∷◌, ◌++◌, ◌⊎◌}
 use Rattle.graph_terms.specs.declared.verb.Edge.{Edge}
 use Rattle.graph_terms.specs.Graph.{GraphValue, never_comes}
-use Rattle.graph_terms.specs.Edges.{edges, sources}
+use Rattle.graph_terms.specs.Edges.{edges}
 use Rattle.graph_meaning.specs.Evaluation.{Step, has_ended, is_ended, end_in, changes_in, step_with, cells_with, is_cancelled, step_by, evaluation_with, end_with, changes_with}
 use Rattle.graph_meaning.specs.Effect.{Cells, Effects}
 use Rattle.graph_meaning.specs.Path.{Path}

@@ -1,6 +1,6 @@
 //! What holds of all graphs, for callers to cite. No function here does anything.
 
-ghost use Rattle.graph_meaning.specs.Laws.{PathsCompose, EdgesBetweenLines, ChangesWithinAccesses, ReadyWhereUnreached, WaitsWhereReached, WaitsWhereReachedWith, CancelledWhereUnbroken, CancelledWhereUnbrokenWith, OrderListsEnded, OrderListsEndedWith, ChangesNameEachCellOnce, VerbsKeepToAccesses, OrderIrrelevant, OrderIrrelevantWith, OneNeed, SectionsNeverOverlap, LaterFormatsKeepMeaning, UpgradeKeepsMeaning};
+ghost use Rattle.graph_meaning.specs.Laws.{PathsCompose, EdgesBetweenLines, ChangesWithinAccesses, ReadyWhereUnreached, WaitsWhereReached, WaitsWhereReachedWith, CancelledWhereUnbroken, CancelledWhereUnbrokenWith, OrderListsEnded, OrderListsEndedWith, ChangesNameEachCellOnce, VerbsKeepToAccesses, OrderIrrelevant, OrderIrrelevantWith, OneNeed, SectionsNeverOverlap, LaterFormatsKeepMeaning, UpgradeKeepsMeaning, OnIsAsAMerge};
 
 use index_spaces::laws::points_ascend;
 
@@ -106,4 +106,10 @@ pub fn later_formats_keep_meaning()
 /// same outcome.
 pub fn upgrade_keeps_meaning()
     ensures { UpgradeKeepsMeaning }
+{}
+
+/// A line that waits for events behind `on` does as one that waits for one merge of them: where the
+/// merge stands above it, the evaluation is the same with either behind `on`.
+pub fn on_is_as_a_merge()
+    ensures { OnIsAsAMerge }
 {}

@@ -221,7 +221,7 @@ pub unused_decl_name : (g : GraphValue) (d : Decl) → decl_fault g d ≡ None �
 unused_decl_name g d h = (or_parts _ _ (none_first (decl_tests g d) h (is_used g (decl_name d) || decl_repeats d, why.Twice) (0, omega arith, refl))).0
 
 pub unused_line_name : (g : GraphValue) (l : Line) → line_fault g l ≡ None → is_used g l.name ≡ false
-unused_line_name g l h = (or_parts (is_used g l.name) _ (none_first (line_tests g l) h (is_used g l.name || (verb_repeats g l.verb || repeats nat_eq (map (λ (a : Access). a.column) (verb_accesses l.verb))), why.Twice) (0, omega arith, refl))).0
+unused_line_name g l h = (or_parts (is_used g l.name) _ (none_first (line_tests g l) h (is_used g l.name || (verb_repeats g l.verb || (repeats nat_eq (map (λ (a : Access). a.column) (verb_accesses l.verb)) || repeats nat_eq l.on)), why.Twice) (0, omega arith, refl))).0
 
 -- what stands for a name has it
 at_some : {X : Type 0} (p : X → Bool) (xs : List X) (k : ℕ) (d : X) → position p xs ≡ Some k → list_any p xs ≡ false → ⊥
@@ -232,7 +232,7 @@ stands_not_unused g q (found.Space s) h n = at_some (λ (x : List ℕ × List (�
 stands_not_unused g q (found.Inst d) h n = at_some (is_inst_named q) g.decls d (Lock []) h (unused_inst q g.decls (decls_unused g q n))
 stands_not_unused g q (found.Lock l) h n = at_some (bytes_eq q) (locks g) l [] h (flipped_lock q (locks g) (unused_in lock_of (λ (x : List ℕ). x) lock_key q g.decls (decls_unused g q n)))
 stands_not_unused g q (found.Barrier b) h n = at_some (λ (x : BarrierInfo). bytes_eq x.name q) (barriers g) b (record { name = []; count = 0; op = op.Sum; first = 0 }) h (unused_in barrier_of (λ (x : BarrierInfo). x.name) barrier_key q g.decls (decls_unused g q n))
-stands_not_unused g q (found.Line i) h n = at_some (λ (x : Line). bytes_eq x.name q) g.lines i (record { name = []; verb = User; on = None }) h (unused_lines q g.lines (lines_unused g q n))
+stands_not_unused g q (found.Line i) h n = at_some (λ (x : Line). bytes_eq x.name q) g.lines i (record { name = []; verb = User; on = [] }) h (unused_lines q g.lines (lines_unused g q n))
 
 pub found_is_used : (g : GraphValue) (q : List ℕ) (o : Option Found) → MatchOption o (is_used g q ≡ false) (StandsFor g q) → is_some o ≡ is_used g q
 found_is_used g q None m = sym m

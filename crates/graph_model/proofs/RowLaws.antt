@@ -18,7 +18,7 @@ use Rattle.graph_terms.specs.declared.verb.Verb.{Verb}
 use Rattle.graph_terms.specs.declared.verb.Verb.TheVariants.{Trigger, Cancel, Arrive, Release}
 use Rattle.graph_terms.specs.Graph.{GraphValue, ends_user, is_release_of, arrival_weight, arrivals}
 use Rattle.graph_terms.specs.Edges.{line_edges, edges, edges_into, edges_out_of}
-use Rattle.graph_terms.specs.Fits.{named_lines, on_lines, most_weight, verb_misnumbered, line_tests, line_fault, with_decl, with_line, IsGraph}
+use Rattle.graph_terms.specs.Fits.{named_lines, most_weight, verb_misnumbered, line_tests, line_fault, with_decl, with_line, IsGraph}
 use Rattle.graph_indexes.specs.Rows.{RowsValue, NamesBelow, EndsBelow, mark_after, mark_of, AddsRow, AreRowsOf}
 use Rattle.graph_terms.specs.declared.why.Why.TheVariants as why
 use Rattle.graph_terms.proofs.Public.{none_first, named_below, line_ends, fit_at, edges_push, arrive_names}
@@ -81,7 +81,7 @@ names_below_by (Release q) n h = h q (contains_here q [])
 names_below_by v n h = tt
 
 pub names_below : (g : GraphValue) (l : Line) → line_fault g l ≡ None → NamesBelow (length g.lines) l.verb
-names_below g l h = names_below_by l.verb (length g.lines) (λ k c. named_below g l h k (Contains-append_left (named_lines l.verb) (on_lines l.on) k c))
+names_below g l h = names_below_by l.verb (length g.lines) (λ k c. named_below g l h k (Contains-append_left (named_lines l.verb) l.on k c))
 
 all_or_none : (b : Bool) (w : ℕ) → w ≤ 8192 → cond b w 0 ≤ 8192
 all_or_none true w h = h

@@ -15,7 +15,7 @@ use Rattle.graph_terms.specs.declared.why.Why.TheVariants as why
 use Rattle.graph_terms.specs.Graph.{GraphValue, space_of, columns_of, lock_of, barrier_of, named_spaces, columns, locks, barriers}
 use Rattle.graph_terms.specs.declared.decl.ColumnInfo.{ColumnInfo}
 use Rattle.graph_terms.specs.declared.decl.BarrierInfo.{BarrierInfo}
-use Rattle.graph_terms.specs.Fits.{is_inst, is_large, is_beyond, cell_count, merges_many, decl_tests, decl_fault, line_tests, line_fault, with_decl, with_line}
+use Rattle.graph_terms.specs.Fits.{is_inst, is_large, is_beyond, cell_count, names_many, decl_tests, decl_fault, line_tests, line_fault, with_decl, with_line}
 use Rattle.graph_terms.specs.Edges.{edges}
 use Rattle.graph_terms.specs.Spelling.{head}
 use Rattle.graph_indexes.specs.Tables.{TablesValue, places_of, tables_of, tables_with, IsWithinLimits}
@@ -177,4 +177,4 @@ pub limits_decl : (g : GraphValue) (d : Decl) → decl_fault g d ≡ None → Is
 limits_decl g d h = within_limits (with_decl g d) (or_parts (is_large d) _ (none_first (decl_tests g d) h (is_large d || is_beyond (with_decl g d), why.Limit) (3, omega arith, refl))).1
 
 pub limits_line : (g : GraphValue) (l : Line) → line_fault g l ≡ None → IsWithinLimits (with_line g l)
-limits_line g l h = within_limits (with_line g l) (or_parts (merges_many l.verb) _ (none_first (line_tests g l) h (merges_many l.verb || is_beyond (with_line g l), why.Limit) (6, omega arith, refl))).1
+limits_line g l h = within_limits (with_line g l) (or_parts (names_many g.format l.verb l.on) _ (none_first (line_tests g l) h (names_many g.format l.verb l.on || is_beyond (with_line g l), why.Limit) (6, omega arith, refl))).1

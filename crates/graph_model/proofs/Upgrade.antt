@@ -1,6 +1,6 @@
 -- A graph of a later format with the declarations and lines of another: it is a graph, its text is as long, and what is kept beside it stays.
-use Rattle.std.proofs.Common.{◌≡◌, ℕ, ◌+◌, ◌≤◌, Bool, true, false, ◌&&◌, ◌||◌, List, [], ◌∷◌, ◌++◌, length, map, refl, sym, ◌∙◌, ap, subst, length-append, arith}
-use Rattle.std.specs.Prelude.{Option, Some, None, codes, nat_lt, nat_le, nat_eq, filter, MatchOption, is_some}
+use Rattle.std.proofs.Common.{◌≡◌, ℕ, ◌+◌, ◌≤◌, Bool, true, false, ◌||◌, List, [], ◌∷◌, ◌++◌, length, map, refl, sym, ◌∙◌, ap, subst, length-append, arith}
+use Rattle.std.specs.Prelude.{Option, Some, None, codes, nat_lt, nat_le, nat_eq, filter, MatchOption}
 use Rattle.std.specs.Option.{option_map_or}
 use Rattle.std.specs.List.{list_any}
 use Rattle.std.proofs.lemmas.Bool.{false≢true, or_parts, or_from, ltb-false, le-ltb}
@@ -24,14 +24,14 @@ use Rattle.graph_terms.specs.Edges.{edges}
 use Rattle.graph_terms.specs.Table.{verb_kind, verb_placed, kind_words, any_placed}
 use Rattle.graph_terms.specs.Access.{verb_accesses}
 use Rattle.graph_terms.specs.Spelling.{spelled, decl_words, place_word, verb_words, on_words, line_words, header, decls_text, lines_text, head}
-use Rattle.graph_terms.specs.Fits.{first_reason, is_inst, cell_count, is_used, decl_repeats, decl_unknown, decl_misnumbered, is_large, named_lines, on_lines, repeats, decl_fault, place_repeats, verb_repeats, place_unknown, place_unlike, verb_unlike, takes_no_on, most_weight, verb_misnumbered, access_unknown, access_outside, arrives_late, merges_many, format_lacks, is_beyond, line_tests, line_fault, DeclsFit, LinesFit, IsGraph}
+use Rattle.graph_terms.specs.Fits.{first_reason, is_inst, cell_count, is_used, decl_repeats, decl_unknown, decl_misnumbered, is_large, named_lines, repeats, decl_fault, place_repeats, verb_repeats, place_unknown, place_unlike, verb_unlike, on_unlike, most_weight, verb_misnumbered, access_unknown, arrives_late, names_many, format_lacks, is_beyond, line_tests, line_fault, DeclsFit, LinesFit, IsGraph}
 use Rattle.graph_terms.specs.Names.{StandsFor}
 use Rattle.graph_indexes.specs.Names.{AreNamesOf, NamesValue, named}
 use Rattle.graph_indexes.specs.Rows.{RowsValue, AreRowsOf}
 use Rattle.graph_indexes.specs.Tables.{IsWithinLimits}
 use Rattle.graph_indexes.specs.declared.counts.Counts.{Counts}
 use Rattle.graph_indexes.specs.Counts.{counts_of}
-use Rattle.graph_terms.proofs.Public.{none_first, kind_fits, later_verbs, later_names, later_decls}
+use Rattle.graph_terms.proofs.Public.{none_first, kind_fits, later_verbs, later_events, later_many, later_names, later_decls}
 
 -- the same declarations and lines in a format
 abbrev of : Format → List Decl → List Line → GraphValue
@@ -50,9 +50,9 @@ verbs_words f h ds ls (Merge events) = refl
 verbs_words f h ds ls (MergeIgnore events) = refl
 verbs_words f h ds ls v = ap (λ (w : Place → ℕ → List ℕ). option_map_or kind_words (verb_kind v) [] ++ map (λ p. w p.0 p.1) (verb_placed v)) (place_words f h ds ls)
 
-ons_words : (f h : Format) (ds : List Decl) (ls : List Line) (o : Option ℕ) → on_words (of f ds ls) o ≡ on_words (of h ds ls) o
-ons_words f h ds ls None = refl
-ons_words f h ds ls (Some e) = refl
+ons_words : (f h : Format) (ds : List Decl) (ls : List Line) (on : List ℕ) → on_words (of f ds ls) on ≡ on_words (of h ds ls) on
+ons_words f h ds ls [] = refl
+ons_words f h ds ls (e ∷ es) = refl
 
 pub lines_words : (f h : Format) (ds : List Decl) (ls : List Line) (l : Line) → line_words (of f ds ls) l ≡ line_words (of h ds ls) l
 lines_words f h ds ls l =
@@ -174,20 +174,26 @@ line_fits_in f h since ds ls l fits =
     let number : verb_misnumbered f l.verb ≡ false = none_first (line_tests (of f ds ls) l) fits (verb_misnumbered f l.verb, why.Number) (3, omega arith, refl) in
     let later : verb_misnumbered h l.verb ≡ false = numbers_fit f h since l.verb number in
     let g : GraphValue = of f ds ls in
-    let columns_repeat : Bool = repeats nat_eq (map (λ (a : Access). a.column) (verb_accesses l.verb)) in
-    let lines_unknown : Bool = list_any (λ i. nat_le (length ls) i) (named_lines l.verb ++ on_lines l.on) in
+    let numbers_repeat : Bool = repeats nat_eq (map (λ (a : Access). a.column) (verb_accesses l.verb)) || repeats nat_eq l.on in
+    let lines_unknown : Bool = list_any (λ i. nat_le (length ls) i) (named_lines l.verb ++ l.on) in
     let reaches_unknown : Bool = list_any (access_unknown g) (verb_accesses l.verb) in
-    let no_on : Bool = takes_no_on l.verb && is_some l.on in
-    let lacks : format_lacks f l.verb ≡ false = (kind_fits g l fits).2 in
+    let kind = kind_fits g l fits in
+    let taken : on_unlike f l.verb l.on ≡ false = kind.1 in
+    let lacks : format_lacks f l.verb ≡ false = kind.2 in
+    let beyond : Bool = is_beyond (of f ds (ls ++ l ∷ [])) in
+    let limit : (names_many f l.verb l.on || beyond) ≡ false = none_first (line_tests g l) fits (names_many f l.verb l.on || beyond, why.Limit) (6, omega arith, refl) in
+    let few : names_many f l.verb l.on ≡ false = (or_parts (names_many f l.verb l.on) beyond limit).0 in
     line_reasons_same _ _ _ _ _ _ _ _ _ _ _ _ _ _
-    (ap (λ b. is_used g l.name || (b || columns_repeat)) (sym (verbs_repeat f h ds ls l.verb)))
+    (ap (λ b. is_used g l.name || (b || numbers_repeat)) (sym (verbs_repeat f h ds ls l.verb)))
     (ap (λ (t : Place → ℕ → Bool). lines_unknown || (any_placed t (verb_placed l.verb) || reaches_unknown)) (sym (places_unknown f h ds ls)))
-    (ap (λ (t : Place → ℕ → Bool). any_placed t (verb_placed l.verb) || (no_on || format_lacks h l.verb)) (sym (places_unlike f h ds ls))
-    ∙ ap (λ b. verb_unlike g l.verb || (no_on || b)) (later_verbs f h since l.verb lacks ∙ sym lacks))
+    (ap (λ (t : Place → ℕ → Bool). any_placed t (verb_placed l.verb) || (on_unlike h l.verb l.on || format_lacks h l.verb)) (sym (places_unlike f h ds ls))
+    ∙ ap (λ b. verb_unlike g l.verb || (b || format_lacks h l.verb)) (later_events f h since l.verb l.on taken ∙ sym taken)
+    ∙ ap (λ b. verb_unlike g l.verb || (on_unlike f l.verb l.on || b)) (later_verbs f h since l.verb lacks ∙ sym lacks))
     (later ∙ sym number)
     refl
     (sym (arrive_late f h ds ls l.verb))
-    (ap (λ b. merges_many l.verb || b) (beyond_alike h f ds (ls ++ l ∷ [])))
+    (ap (λ b. b || is_beyond (of h ds (ls ++ l ∷ []))) (later_many f h since l.verb l.on few ∙ sym few)
+    ∙ ap (λ b. names_many f l.verb l.on || b) (beyond_alike h f ds (ls ++ l ∷ [])))
     ∙ fits
   where
     line_reasons_same : (a a' b b' c c' d d' e e' x x' y y' : Bool) → a ≡ a' → b ≡ b' → c ≡ c' → d ≡ d' → e ≡ e' → x ≡ x' → y ≡ y' →

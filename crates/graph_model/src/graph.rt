@@ -9,6 +9,7 @@ pub(crate) mod words;
 
 ghost use Rattle.std.specs.Prelude.{◌≡◌};
 ghost use Rattle.graph_terms.specs.Graph.{upgraded_format};
+ghost use Rattle.graph_terms.specs.Fits.{most_events};
 
 use crate::graph::edges::list_edges;
 use graph_indexes::counts::Counts;
@@ -20,7 +21,9 @@ use graph_terms::access::{Accesses, in_format, verb_accesses};
 use graph_terms::decl::{BarrierInfo, Decl};
 use graph_terms::format::Format;
 use graph_terms::found::Found;
-use graph_terms::limits::{MAX_BARRIERS, MAX_COLUMNS, MAX_LINES, MAX_LOCKS};
+use graph_terms::limits::{
+    MAX_BARRIERS, MAX_COLUMNS, MAX_EVENTS, MAX_EVENTS_OF_THREE, MAX_LINES, MAX_LOCKS,
+};
 use graph_terms::name::Name;
 use graph_terms::verb::{Access, Edge, Line, Verb};
 use graph_terms::why::Why;
@@ -504,5 +507,15 @@ fn upgraded_format(format: Format) -> Format
     match format {
         Format::Three => Format::Three,
         _ => Format::Two,
+    }
+}
+
+/// The most events of a merge in a format, and the most behind `on`.
+pub fn most_events(format: Format) -> u32
+    ensures { result ≡ most_events format }
+{
+    match format {
+        Format::Three => MAX_EVENTS_OF_THREE,
+        _ => MAX_EVENTS,
     }
 }

@@ -1,5 +1,5 @@
 -- What no reason refuses: each word in its place, no event and no column twice, and the item itself.
-use Rattle.std.proofs.Common.{◌≡◌, ℕ, suc, ◌+◌, ◌≤◌, Bool, true, false, not, ◌||◌, List, [], ◌∷◌, ◌++◌, length, map, refl, sym, ◌∙◌, ap, arith}
+use Rattle.std.proofs.Common.{◌≡◌, ℕ, suc, ◌+◌, ◌<◌, ◌≤◌, Bool, true, false, not, ◌||◌, List, [], ◌∷◌, ◌++◌, length, drop, map, refl, sym, ◌∙◌, ap, arith}
 use Rattle.std.specs.Prelude.{Option, Some, None, bytes_eq, nat_eq, filter_map, zip, slice_index_or, nat_le}
 use Rattle.std.specs.List.{list_any, list_all, AllByRecursion, cons_option}
 use Rattle.std.proofs.lemmas.Bool.{or_parts, or_from, and_parts, false_from_ne_true, eqb-false, not-true, leb-true}
@@ -9,7 +9,7 @@ use Rattle.graph_terms.specs.Graph.{GraphValue}
 use Rattle.graph_terms.specs.Spelling.{column_name}
 use Rattle.graph_terms.specs.Fits.{first_reason, repeats}
 use Rattle.graph_words.specs.Words.{pieces}
-use Rattle.graph_words.specs.Draft.{Place, NewName, SpaceName, LockName, BarrierName, UserName, PhaseName, AcquireName, EventName, Column, Fields, Value, Times, Weight, Shared, Count, Intervals, Placed, is_own_word, Draft, number_in, column_number_of}
+use Rattle.graph_words.specs.Draft.{Place, NewName, SpaceName, LockName, BarrierName, UserName, PhaseName, AcquireName, EventName, Column, Fields, Value, Times, Weight, Shared, Count, Intervals, Placed, events_placed, is_own_word, Draft, number_in, column_number_of}
 use Rattle.graph_reader.specs.FirstFault.{misnamed, unknown, twice, unlike, misnumbered, misordered, event_word, column_word, item_fault, or_else, draft_tests, draft_fault, is_empty}
 use Rattle.graph_words.proofs.Public.{each_fails, none_where_each_fails}
 use Rattle.basics.proofs.TestedLists.{same_bytes, each_from_none}
@@ -152,6 +152,15 @@ placed_columns g (NewName ∷ ps) (n ∷ ns) more f = placed_columns g ps ns mor
 placed_columns g (Fields ∷ ps) (n ∷ ns) more f = placed_columns g ps ns more f.1
 placed_columns g (Intervals ∷ ps) (n ∷ ns) more f = placed_columns g ps ns more f.1
 
+-- the words of events in their places
+pub events_listed : (ws : List (List ℕ)) → event_words (events_placed ws) ≡ ws
+events_listed [] = refl
+events_listed (w ∷ ws) = ap (λ xs. w ∷ xs) (events_listed ws)
+
+pub events_no_columns : (ws : List (List ℕ)) → column_words (events_placed ws) ≡ []
+events_no_columns [] = refl
+events_no_columns (w ∷ ws) = events_no_columns ws
+
 -- names that are read back repeat no more than their numbers
 names_unlisted : (name : ℕ → List ℕ) (number : List ℕ → ℕ) (n : ℕ) (ns : List ℕ) → number (name n) ≡ n → AllByRecursion (λ k. number (name k) ≡ k) ns → list_any (nat_eq n) ns ≡ false → list_any (bytes_eq (name n)) (map name ns) ≡ false
 names_unlisted name number n [] e h k = refl
@@ -210,16 +219,14 @@ spells_exactly g (p ∷ ps) [] n o f l = absurd (omega arith)
 spells_exactly g (p ∷ ps) (w ∷ ws) n o f l = let own = and_parts (is_own_word p w) (are_own_words (zip ps ws)) o in let s = place_spelled g p w n.0 own.0 f.0 in
     ap (λ x. x ∷ spell_list g ps (numbers_of g ps ws)) s.word_is ∙ ap (λ xs. w ∷ xs) (spells_exactly g ps ws n.1 own.1 f.1 (omega arith))
 
-pub spells_more : (g : GraphValue) (ps : List Place) (ws : List (List ℕ)) → AllByRecursion IsNumbered ps → are_own_words (zip ps ws) ≡ true → EachFine g (zip ps ws) → length ws ≡ length ps + 2 →
-    spell_list g ps (numbers_of g ps ws) ++ slice_index_or ws (length ps) [] ∷ slice_index_or ws (length ps + 1) [] ∷ [] ≡ ws
+pub spells_more : (g : GraphValue) (ps : List Place) (ws : List (List ℕ)) → AllByRecursion IsNumbered ps → are_own_words (zip ps ws) ≡ true → EachFine g (zip ps ws) → length ps < length ws →
+    spell_list g ps (numbers_of g ps ws) ++ slice_index_or ws (length ps) [] ∷ drop (length ps + 1) ws ≡ ws
 spells_more g [] [] n o f l = absurd (omega arith)
-spells_more g [] (a ∷ []) n o f l = absurd (omega arith)
-spells_more g [] (a ∷ b ∷ []) n o f l = refl
-spells_more g [] (a ∷ b ∷ c ∷ cs) n o f l = absurd (omega arith)
+spells_more g [] (w ∷ ws) n o f l = refl
 spells_more g (p ∷ ps) [] n o f l = absurd (omega arith)
 spells_more g (p ∷ ps) (w ∷ ws) n o f l = let own = and_parts (is_own_word p w) (are_own_words (zip ps ws)) o in let s = place_spelled g p w n.0 own.0 f.0 in
-    ap (λ x. x ∷ (spell_list g ps (numbers_of g ps ws) ++ slice_index_or ws (length ps) [] ∷ slice_index_or (w ∷ ws) (suc (length ps) + 1) [] ∷ [])) s.word_is
-    ∙ (ap (λ k. w ∷ (spell_list g ps (numbers_of g ps ws) ++ slice_index_or ws (length ps) [] ∷ slice_index_or (w ∷ ws) k [] ∷ [])) (let e : suc (length ps) + 1 ≡ suc (length ps + 1) = omega arith in e)
+    ap (λ x. x ∷ (spell_list g ps (numbers_of g ps ws) ++ slice_index_or ws (length ps) [] ∷ drop (suc (length ps) + 1) (w ∷ ws))) s.word_is
+    ∙ (ap (λ k. w ∷ (spell_list g ps (numbers_of g ps ws) ++ slice_index_or ws (length ps) [] ∷ drop k (w ∷ ws))) (let e : suc (length ps) + 1 ≡ suc (length ps + 1) = omega arith in e)
     ∙ ap (λ xs. w ∷ xs) (spells_more g ps ws n.1 own.1 f.1 (omega arith)))
 
 pub bounded_by : (g : GraphValue) (ps : List Place) (ws : List (List ℕ)) → AllByRecursion IsNumbered ps → are_own_words (zip ps ws) ≡ true → EachFine g (zip ps ws) → Bounded ps (numbers_of g ps ws)

@@ -1,27 +1,28 @@
 -- What refuses the words of a line of a kind.
-use Rattle.std.proofs.Common.{◌⊎◌, ◌≡◌, ℕ, ◌+◌, Bool, true, false, cond, not, ◌||◌, List, [], ◌∷◌, ◌++◌, length, refl, sym, ◌∙◌, ap, inr, append-nil}
-use Rattle.std.specs.Prelude.{Option, Some, None, Ok, bytes_eq, filter_map, slice_index_or}
-use Rattle.std.specs.List.{list_any, cons_option}
+use Rattle.std.proofs.Common.{◌≡◌, ℕ, Bool, true, false, cond, not, ◌&&◌, ◌||◌, List, [], ◌∷◌, ◌++◌, refl, sym, ◌∙◌, ap, inr, append-nil}
+use Rattle.std.specs.Prelude.{Option, Some, None, Ok, bytes_eq, filter_map}
+use Rattle.std.specs.List.{list_any, list_all, cons_option}
 use Rattle.std.proofs.lemmas.List.Folds.{list_any-append}
-use Rattle.std.proofs.lemmas.Bool.{cond-true}
-use Rattle.graph_terms.specs.declared.decl.Decl.{Decl}
+use Rattle.std.proofs.lemmas.Bool.{cond-true, not-false}
 use Rattle.graph_terms.specs.declared.verb.Line.{Line}
-use Rattle.graph_terms.specs.declared.verb.Verb.{Verb}
 use Rattle.graph_terms.specs.declared.why.Why.{Why}
 use Rattle.graph_terms.specs.declared.why.Why.TheVariants as why
 use Rattle.graph_terms.specs.Graph.{GraphValue}
 use Rattle.graph_terms.specs.Name.{is_name_in}
 use Rattle.graph_terms.specs.Fits.{repeats, first_reason, is_used, line_fault}
-use Rattle.graph_words.specs.Draft.{Place, NewName, EventName, Placed, Draft, form_of, has_on, on_placed, words_in}
+use Rattle.graph_words.specs.Draft.{Place, NewName, EventName, Placed, Draft, form_of, on_events, events_placed, on_placed, words_in}
 use Rattle.graph_reader.specs.FirstFault.{misnamed, twice, unknown, unlike, misnumbered, misordered, event_word, column_word, draft_tests, draft_fault, or_else, item_fault}
 use Rattle.graph_terms.specs.declared.table.Kind.{Kind}
 use Rattle.graph_terms.specs.declared.table.Place as table
 use Rattle.graph_terms.specs.declared.table.Place.TheVariants as places
 use Rattle.graph_terms.specs.Table.{kind_places}
-use Rattle.graph_reader.specs.Kinds.{kind_draft, kind_placed, form_placed, form_reason, column_words, kind_line, later_reason, AllTell, IsReading}
+use Rattle.graph_reader.specs.Kinds.{kind_draft, kind_placed, form_placed, form_reason, form_repeats, column_words, kind_line, later_reason, AllTell}
+use Rattle.graph_reader.specs.Reading.{IsLineRead}
 use Rattle.graph_reader.specs.declared.faults.Faults.{Faults}
 use Rattle.basics.proofs.Choices.{or_true}
-use Rattle.graph_reader.proofs.Drafts.{placed_events}
+use Rattle.basics.proofs.TestedLists.{any_map, any_right}
+use Rattle.graph_reader.proofs.Drafts.{event_words, placed_events, events_listed, events_no_columns}
+use Rattle.graph_reader.proofs.SeenWords.{or_again}
 use Rattle.graph_reader.proofs.VerbForms.{no_events}
 
 -- the places of a kind take no intervals
@@ -31,19 +32,20 @@ quiet (p ∷ ps) [] = refl
 quiet (places.User ∷ ps) (w ∷ ws) = quiet ps ws
 quiet (p ∷ ps) (w ∷ ws) = quiet ps ws
 
-abbrev on_by : Bool → List ℕ → List Placed
-on_by b w = cond b ((EventName, w) ∷ []) []
+pub none_of : (es : List (List ℕ)) → list_any (λ w. false) es ≡ false
+none_of [] = refl
+none_of (e ∷ es) = none_of es
 
--- the words of a line without `on`, and with it
-pub placed_plain : (kind : Kind) (ws : List (List ℕ)) → has_on (form_of kind) ws ≡ false → form_placed kind ws ≡ kind_placed kind ws
-unfolding form_placed
-placed_plain kind ws h = ap (λ b. kind_placed kind ws ++ on_by b (slice_index_or ws (length (form_of kind).places + 1) [])) h ∙ append-nil (kind_placed kind ws)
+not_and : (b c d : Bool) → c ≡ not d → (not b || c) ≡ not (b && d)
+not_and true c d h = h
+not_and false c d h = refl
 
-pub placed_on : (kind : Kind) (ws : List (List ℕ)) → has_on (form_of kind) ws ≡ true → form_placed kind ws ≡ kind_placed kind ws ++ (EventName, slice_index_or ws (length (form_of kind).places + 1) []) ∷ []
-unfolding form_placed
-placed_on kind ws h = ap (λ b. kind_placed kind ws ++ on_by b (slice_index_or ws (length (form_of kind).places + 1) [])) h
+-- some fail where not all pass
+pub some_fail : (t : List ℕ → Bool) (es : List (List ℕ)) → list_any (λ w. not (t w)) es ≡ not (list_all t es)
+some_fail t [] = refl
+some_fail t (e ∷ es) = not_and (t e) (list_any (λ w. not (t w)) es) (list_all t es) (some_fail t es)
 
--- words with `on` or without it behind the places
+-- words behind others
 mapped_by : {X Y : Type 0} (f : X → Option Y) (xs ys : List X) (o : Option Y) → filter_map f (xs ++ ys) ≡ filter_map f xs ++ filter_map f ys → cons_option o (filter_map f (xs ++ ys)) ≡ cons_option o (filter_map f xs) ++ filter_map f ys
 mapped_by f xs ys None h = h
 mapped_by f xs ys (Some y) h = ap (λ zs. y ∷ zs) h
@@ -51,23 +53,6 @@ mapped_by f xs ys (Some y) h = ap (λ zs. y ∷ zs) h
 mapped_append : {X Y : Type 0} (f : X → Option Y) (xs ys : List X) → filter_map f (xs ++ ys) ≡ filter_map f xs ++ filter_map f ys
 mapped_append f [] ys = refl
 mapped_append f (x ∷ xs) ys = mapped_by f xs ys (f x) (mapped_append f xs ys)
-
-on_events : (b : Bool) (w : List ℕ) → repeats bytes_eq (filter_map (λ (p : Placed). event_word p.0 p.1) (on_by b w)) ≡ false
-on_events true w = refl
-on_events false w = refl
-
-on_columns : (b : Bool) (w : List ℕ) → filter_map (λ (p : Placed). column_word p.0 p.1) (on_by b w) ≡ []
-on_columns true w = refl
-on_columns false w = refl
-
-on_ordered : (b : Bool) (w : List ℕ) → list_any (λ (p : Placed). misordered p.0 p.1) (on_by b w) ≡ false
-on_ordered true w = refl
-on_ordered false w = refl
-
-or_four : (u t e c : Bool) → e ≡ false → ((u || t) || (e || c)) ≡ (u || (t || c))
-or_four true t e c h = refl
-or_four false true e c h = refl
-or_four false false e c h = ap (λ x. x || c) h
 
 six_to_five : (a b x y c d e f : Bool) → a ≡ b → x ≡ y → f ≡ false →
     first_reason ((a, why.Name) ∷ (x, why.Twice) ∷ (c, why.Unknown) ∷ (d, why.Kind) ∷ (e, why.Number) ∷ (f, why.Space) ∷ [])
@@ -80,13 +65,14 @@ abbrev pub fails : (Place → List ℕ → Bool) → List Placed → Bool
 fails t ps = list_any (λ (p : Placed). t p.0 p.1) ps
 
 -- the tests of words of which the first is a new name
-reason_by : (g : GraphValue) (d : Draft) (name : List ℕ) (ps : List Placed) (c : Bool) → d.placed ≡ (NewName, name) ∷ ps → is_name_in g.format name ≡ true → repeats bytes_eq (filter_map (λ (p : Placed). event_word p.0 p.1) ps) ≡ false →
-    repeats bytes_eq (filter_map (λ (p : Placed). column_word p.0 p.1) ps) ≡ c → fails misordered ps ≡ false →
-    first_reason (draft_tests g d) ≡ first_reason ((fails (misnamed g.format) ps, why.Name) ∷ (is_used g name || (fails (twice g) ps || c), why.Twice) ∷ (fails (unknown g) ps, why.Unknown) ∷ (fails (unlike g) ps, why.Kind) ∷ (fails misnumbered ps, why.Number) ∷ [])
-reason_by g d name ps c e n events columns ordered =
-    ap (λ x. first_reason (draft_tests g (record { placed = x; item = d.item }))) e
-    ∙ six_to_five (not (is_name_in g.format name) || fails (misnamed g.format) ps) (fails (misnamed g.format) ps) _ (is_used g name || (fails (twice g) ps || c)) (fails (unknown g) ps) (fails (unlike g) ps) (fails misnumbered ps) (fails misordered ps)
-    (ap (λ b. not b || fails (misnamed g.format) ps) n) (or_four (is_used g name) (fails (twice g) ps) _ _ events ∙ ap (λ x. is_used g name || (fails (twice g) ps || x)) columns) ordered
+reason_by : (g : GraphValue) (d : Draft) (name : List ℕ) (ps : List Placed) (e c : Bool) → d.placed ≡ (NewName, name) ∷ ps → is_name_in g.format name ≡ true → repeats bytes_eq (event_words ps) ≡ e →
+    repeats bytes_eq (column_words ps) ≡ c → fails misordered ps ≡ false →
+    first_reason (draft_tests g d) ≡ first_reason ((fails (misnamed g.format) ps, why.Name) ∷ (is_used g name || (fails (twice g) ps || (e || c)), why.Twice) ∷ (fails (unknown g) ps, why.Unknown) ∷ (fails (unlike g) ps, why.Kind) ∷ (fails misnumbered ps, why.Number) ∷ [])
+reason_by g d name ps e c placed n events columns ordered =
+    ap (λ x. first_reason (draft_tests g (record { placed = x; item = d.item }))) placed
+    ∙ six_to_five (not (is_name_in g.format name) || fails (misnamed g.format) ps) (fails (misnamed g.format) ps) _ (is_used g name || (fails (twice g) ps || (e || c))) (fails (unknown g) ps) (fails (unlike g) ps) (fails misnumbered ps) (fails misordered ps)
+    (ap (λ b. not b || fails (misnamed g.format) ps) n)
+    (or_again (is_used g name) (fails (twice g) ps) _ ∙ (ap (λ x. is_used g name || (fails (twice g) ps || (x || repeats bytes_eq (column_words ps)))) events ∙ ap (λ x. is_used g name || (fails (twice g) ps || (e || x))) columns)) ordered
 
 used_first : (u x : Bool) (r : Option Why) → or_else (cond u (Some why.Twice) None) (cond (u || x) (Some why.Twice) r) ≡ cond (u || x) (Some why.Twice) r
 used_first true x r = refl
@@ -102,33 +88,29 @@ twice_by a u b r h k = ap (λ x. cond x (Some why.Name) (cond (u || b) (Some why
 left_by : (a u b : Bool) (r : Option Why) → a ≡ false → b ≡ false → cond a (Some why.Name) (cond (u || b) (Some why.Twice) r) ≡ cond u (Some why.Twice) r
 left_by a u b r h k = ap (λ x. cond x (Some why.Name) (cond (u || b) (Some why.Twice) r)) h ∙ ap (λ x. cond x (Some why.Twice) r) (ap (λ x. u || x) k ∙ or_false u)
 
-abbrev as_item : List ℕ → Verb → Option ℕ → Decl ⊎ Line
-as_item name verb on = inr (record { name = name; verb = verb; on = on })
-
 module _ (g : GraphValue) (kind : Kind) (name : List ℕ) (ws : List (List ℕ)) where
-  abbrev on_word : List ℕ
-  on_word = slice_index_or ws (length (form_of kind).places + 1) []
+  abbrev events : List (List ℕ)
+  events = on_events g.format (form_of kind) ws
 
   abbrev rest_placed : List Placed
-  rest_placed = kind_placed kind ws ++ on_placed (form_of kind) ws
+  rest_placed = kind_placed kind ws ++ events_placed events
 
-  events_once : repeats bytes_eq (filter_map (λ (p : Placed). event_word p.0 p.1) rest_placed) ≡ false
-  events_once = ap (repeats bytes_eq) (mapped_append (λ (p : Placed). event_word p.0 p.1) (kind_placed kind ws) (on_placed (form_of kind) ws)
-      ∙ ap (λ xs. xs ++ filter_map (λ (p : Placed). event_word p.0 p.1) (on_placed (form_of kind) ws)) (placed_events g (form_of kind).places ws (no_events (kind_places kind))))
-      ∙ on_events (has_on (form_of kind) ws) on_word
+  events_are : event_words rest_placed ≡ events
+  events_are = mapped_append (λ (p : Placed). event_word p.0 p.1) (kind_placed kind ws) (events_placed events)
+      ∙ (ap (λ xs. xs ++ event_words (events_placed events)) (placed_events g (form_of kind).places ws (no_events (kind_places kind))) ∙ events_listed events)
 
-  columns_are : filter_map (λ (p : Placed). column_word p.0 p.1) rest_placed ≡ column_words (kind_placed kind ws)
-  columns_are = mapped_append (λ (p : Placed). column_word p.0 p.1) (kind_placed kind ws) (on_placed (form_of kind) ws)
-      ∙ (ap (λ xs. column_words (kind_placed kind ws) ++ xs) (on_columns (has_on (form_of kind) ws) on_word) ∙ append-nil (column_words (kind_placed kind ws)))
+  columns_are : column_words rest_placed ≡ column_words (kind_placed kind ws)
+  columns_are = mapped_append (λ (p : Placed). column_word p.0 p.1) (kind_placed kind ws) (events_placed events)
+      ∙ (ap (λ xs. column_words (kind_placed kind ws) ++ xs) (events_no_columns events) ∙ append-nil (column_words (kind_placed kind ws)))
 
   all_ordered : list_any (λ (p : Placed). misordered p.0 p.1) rest_placed ≡ false
-  all_ordered = list_any-append (λ (p : Placed). misordered p.0 p.1) (kind_placed kind ws) (on_placed (form_of kind) ws)
-      ∙ (ap (λ b. b || list_any (λ (p : Placed). misordered p.0 p.1) (on_placed (form_of kind) ws)) (quiet (kind_places kind) ws) ∙ on_ordered (has_on (form_of kind) ws) on_word)
+  all_ordered = list_any-append (λ (p : Placed). misordered p.0 p.1) (kind_placed kind ws) (events_placed events)
+      ∙ (ap (λ b. b || list_any (λ (p : Placed). misordered p.0 p.1) (events_placed events)) (quiet (kind_places kind) ws) ∙ (any_map (λ (p : Placed). misordered p.0 p.1) (λ w. (EventName, w)) events ∙ none_of events))
 
   -- the first reason that refuses a word
   pub reason_is : is_name_in g.format name ≡ true → first_reason (draft_tests g (kind_draft g kind name ws)) ≡ form_reason g kind name ws
   unfolding form_reason form_placed
-  reason_is n = reason_by g (kind_draft g kind name ws) name rest_placed (repeats bytes_eq (column_words (kind_placed kind ws))) refl n events_once (ap (repeats bytes_eq) columns_are) all_ordered
+  reason_is n = reason_by g (kind_draft g kind name ws) name rest_placed (repeats bytes_eq events) (repeats bytes_eq (column_words (kind_placed kind ws))) refl n (ap (repeats bytes_eq) events_are) (ap (repeats bytes_eq) columns_are) all_ordered
 
   pub refused_word : (w : Why) → is_name_in g.format name ≡ true → form_reason g kind name ws ≡ Some w → draft_fault g (kind_draft g kind name ws) ≡ Some w
   refused_word w n h = ap (λ r. or_else r (item_fault g (kind_draft g kind name ws).item)) (reason_is n ∙ h)
@@ -137,27 +119,34 @@ module _ (g : GraphValue) (kind : Kind) (name : List ℕ) (ws : List (List ℕ))
   left_fault : is_name_in g.format name ≡ true → form_reason g kind name ws ≡ cond (is_used g name) (Some why.Twice) None → draft_fault g (kind_draft g kind name ws) ≡ line_fault g (kind_line g kind name ws)
   left_fault n h = ap (λ r. or_else r (line_fault g (kind_line g kind name ws))) (reason_is n ∙ h) ∙ used_first (is_used g name) _ _
 
-  pub read_as : (line : Line) → is_name_in g.format name ≡ true → form_reason g kind name ws ≡ cond (is_used g name) (Some why.Twice) None → line ≡ kind_line g kind name ws → IsReading g (kind_draft g kind name ws) (Ok line)
+  pub read_as : (line : Line) → is_name_in g.format name ≡ true → form_reason g kind name ws ≡ cond (is_used g name) (Some why.Twice) None → line ≡ kind_line g kind name ws → IsLineRead g (kind_draft g kind name ws) (Ok line)
   read_as line n h e = (left_fault n h ∙ ap (line_fault g) (sym e), ap inr (sym e))
 
-  module _ (f : Faults) (tell : AllTell g (form_placed kind ws) f) where
-    later_is : first_reason ((fails (unknown g) (form_placed kind ws), why.Unknown) ∷ (fails (unlike g) (form_placed kind ws), why.Kind) ∷ (fails misnumbered (form_placed kind ws), why.Number) ∷ []) ≡ later_reason f
-    later_is = ap (λ x. first_reason ((x, why.Unknown) ∷ (fails (unlike g) (form_placed kind ws), why.Kind) ∷ (fails misnumbered (form_placed kind ws), why.Number) ∷ [])) (sym tell.unknown)
-        ∙ (ap (λ x. first_reason ((f.unknown, why.Unknown) ∷ (x, why.Kind) ∷ (fails misnumbered (form_placed kind ws), why.Number) ∷ [])) (sym tell.unlike)
+  module _ (f : Faults) (tell : AllTell g (form_placed g.format kind ws) f) where
+    later_is : first_reason ((fails (unknown g) (form_placed g.format kind ws), why.Unknown) ∷ (fails (unlike g) (form_placed g.format kind ws), why.Kind) ∷ (fails misnumbered (form_placed g.format kind ws), why.Number) ∷ []) ≡ later_reason f
+    later_is = ap (λ x. first_reason ((x, why.Unknown) ∷ (fails (unlike g) (form_placed g.format kind ws), why.Kind) ∷ (fails misnumbered (form_placed g.format kind ws), why.Number) ∷ [])) (sym tell.unknown)
+        ∙ (ap (λ x. first_reason ((f.unknown, why.Unknown) ∷ (x, why.Kind) ∷ (fails misnumbered (form_placed g.format kind ws), why.Number) ∷ [])) (sym tell.unlike)
         ∙ ap (λ x. first_reason ((f.unknown, why.Unknown) ∷ (f.unlike, why.Kind) ∷ (x, why.Number) ∷ [])) (sym tell.misnumbered))
+
+    -- where no word is misnamed, each event is spelled as a name
+    pub events_named : f.misnamed ≡ false → list_all (is_name_in g.format) (on_events g.format (form_of kind) ws) ≡ true
+    unfolding form_placed
+    events_named h = not-false (list_all (is_name_in g.format) events) (sym (some_fail (is_name_in g.format) events)
+        ∙ (sym (any_map (λ (p : Placed). misnamed g.format p.0 p.1) (λ w. (EventName, w)) events)
+        ∙ any_right (λ (p : Placed). misnamed g.format p.0 p.1) (kind_placed kind ws) (events_placed events) (sym tell.misnamed ∙ h)))
 
     pub misnamed_reason : f.misnamed ≡ true → form_reason g kind name ws ≡ Some why.Name
     unfolding form_reason
-    misnamed_reason h = cond-true (fails (misnamed g.format) (form_placed kind ws)) (Some why.Name) _ (sym tell.misnamed ∙ h)
+    misnamed_reason h = cond-true (fails (misnamed g.format) (form_placed g.format kind ws)) (Some why.Name) _ (sym tell.misnamed ∙ h)
 
-    pub twice_reason : f.misnamed ≡ false → (f.twice || repeats bytes_eq (column_words (kind_placed kind ws))) ≡ true → form_reason g kind name ws ≡ Some why.Twice
+    pub twice_reason : f.misnamed ≡ false → (f.twice || form_repeats g.format kind ws) ≡ true → form_reason g kind name ws ≡ Some why.Twice
     unfolding form_reason
-    twice_reason h k = twice_by (fails (misnamed g.format) (form_placed kind ws)) (is_used g name) _ _ (sym tell.misnamed ∙ h) (ap (λ b. b || repeats bytes_eq (column_words (kind_placed kind ws))) (sym tell.twice) ∙ k)
+    twice_reason h k = twice_by (fails (misnamed g.format) (form_placed g.format kind ws)) (is_used g name) _ _ (sym tell.misnamed ∙ h) (ap (λ b. b || form_repeats g.format kind ws) (sym tell.twice) ∙ k)
 
     -- what is left where each word is spelled and nothing stands there twice
-    pub left_reason : f.misnamed ≡ false → (f.twice || repeats bytes_eq (column_words (kind_placed kind ws))) ≡ false → form_reason g kind name ws ≡ cond (is_used g name) (Some why.Twice) (later_reason f)
+    pub left_reason : f.misnamed ≡ false → (f.twice || form_repeats g.format kind ws) ≡ false → form_reason g kind name ws ≡ cond (is_used g name) (Some why.Twice) (later_reason f)
     unfolding form_reason
-    left_reason h k = left_by (fails (misnamed g.format) (form_placed kind ws)) (is_used g name) _ _ (sym tell.misnamed ∙ h) (ap (λ b. b || repeats bytes_eq (column_words (kind_placed kind ws))) (sym tell.twice) ∙ k)
+    left_reason h k = left_by (fails (misnamed g.format) (form_placed g.format kind ws)) (is_used g name) _ _ (sym tell.misnamed ∙ h) (ap (λ b. b || form_repeats g.format kind ws) (sym tell.twice) ∙ k)
         ∙ ap (λ r. cond (is_used g name) (Some why.Twice) r) later_is
 
 -- a word that is misnamed refuses first
@@ -168,4 +157,4 @@ first_fails g d h = or_first _ _ (item_fault g d.item) (cond-true (fails (misnam
     or_first r w o e = ap (λ x. or_else x o) e
 
 pub misnamed_first : (g : GraphValue) (kind : Kind) (name : List ℕ) (ws : List (List ℕ)) → is_name_in g.format name ≡ false → draft_fault g (kind_draft g kind name ws) ≡ Some why.Name
-misnamed_first g kind name ws h = first_fails g (kind_draft g kind name ws) (ap (λ b. not b || fails (misnamed g.format) (kind_placed kind ws ++ on_placed (form_of kind) ws)) h)
+misnamed_first g kind name ws h = first_fails g (kind_draft g kind name ws) (ap (λ b. not b || fails (misnamed g.format) (kind_placed kind ws ++ on_placed g.format (form_of kind) ws)) h)

@@ -1,11 +1,13 @@
 -- Words by their number.
-use Rattle.std.proofs.Common.{◌⊎◌, inl, inr, ◌≡◌, ℕ, ◌+◌, ◌<◌, ◌≤◌, Bool, true, false, ◌&&◌, ◌||◌, List, [], ◌∷◌, length, drop, refl, sym, ◌∙◌, ap, subst, arith}
+use Rattle.std.proofs.Common.{◌⊎◌, inl, inr, ◌≡◌, ℕ, ◌+◌, ◌<◌, ◌≤◌, Bool, true, false, ◌&&◌, ◌||◌, List, [], ◌∷◌, ◌++◌, length, length-append, drop, refl, sym, ◌∙◌, ap, subst, arith}
 use Rattle.std.specs.Prelude.{Option, Some, None, Result, Ok, Err, option_map, slice_index_or, codes, find, zip, bytes_eq, nat_le, ◌==◌}
 use Rattle.std.specs.List.{starts_with, list_any, list_all}
 use Rattle.std.specs.Option.{option_map_or}
-use Rattle.std.proofs.lemmas.Bool.{true≢false, and_parts, ne_eqb, le-leb, leb-true, cond-true, cond-false, eqb-true}
+use Rattle.std.proofs.lemmas.Bool.{true≢false, and_parts, or_cases, ne_eqb, le-leb, leb-true, cond-true, cond-false, eqb-true}
+use Rattle.std.proofs.lemmas.Slice.Eq.{bytes_eq-Decides, starts_is}
 use Rattle.index_spaces.specs.declared.Op.{Op}
 use Rattle.graph_terms.specs.declared.format.Format.{Format}
+use Rattle.graph_terms.specs.declared.format.Format.TheVariants.{One, Two, Three}
 use Rattle.graph_terms.specs.declared.decl.Decl.{Decl}
 use Rattle.graph_terms.specs.declared.verb.Line.{Line}
 use Rattle.graph_terms.specs.declared.verb.Verb.{Verb}
@@ -21,7 +23,8 @@ use Rattle.graph_terms.specs.declared.table.TheConstants.{KINDS}
 use Rattle.graph_reader.specs.Kinds.{kind_draft}
 use Rattle.graph_reader.specs.Reading.{open_fault, IsDeclRead, IsDeclOf, IsLineOf, IsWordsError}
 use Rattle.graph_terms.specs.Format.{has_since}
-use Rattle.graph_words.specs.Draft.{Placed, Draft, draft, merge_with, decl_draft_after, form_of, form_draft, is_own_word, is_of_form, same_word, merge_draft, line_draft, decl_draft, space_draft, inst_draft, lock_draft, barrier_draft, space_with, inst_with, barrier_with, op_of}
+use Rattle.graph_terms.specs.Table.{kind_words}
+use Rattle.graph_words.specs.Draft.{Placed, Draft, draft, merge_with, decl_draft_after, form_of, form_draft, has_events, is_own_word, is_of_form, same_word, merge_draft, line_draft, decl_draft, space_draft, inst_draft, lock_draft, barrier_draft, space_with, inst_with, barrier_with, op_of}
 use Rattle.basics.proofs.TestedLists.{find_mapped}
 use Rattle.graph_reader.specs.Laws.{WordsFillPlaces, LineBySign, DeclarationBySign, EmptyByLength, ReservationWords, BarrierWords, InstanceWords, OperationsHaveTwoWords}
 
@@ -129,20 +132,39 @@ line_kind g name (w ∷ ws) v o e a b h =
     option_twice None = refl
     option_twice (Some k) = refl
 
--- as many words stand behind the fixed ones as the places ask for, or two more
-room_by : (t : Bool) (n m : ℕ) (b : Bool) → (n == m || (t && (n == m + 2 && b))) ≡ true → m ≤ n
-room_by t n m b h = by_first (n == m) refl h
-  where
-    by_first : (c : Bool) → (n == m) ≡ c → (c || (t && (n == m + 2 && b))) ≡ true → m ≤ n
-    by_first true e h = let k : n ≡ m = eqb-true n m e in omega arith
-    by_first false e h = let p = and_parts t (n == m + 2 && b) h in let q = and_parts (n == m + 2) b p.1 in let k : n ≡ m + 2 = eqb-true n (m + 2) q.0 in omega arith
+-- where events are there, two words at least stand behind the places
+pub events_long : (fm : Format) (n m : ℕ) → has_events fm n m ≡ true → n + 2 ≤ m
+events_long One n m h = let e : m ≡ n + 2 = eqb-true m (n + 2) h in omega arith
+events_long Two n m h = let e : m ≡ n + 2 = eqb-true m (n + 2) h in omega arith
+events_long Three n m h = leb-true (n + 2) m h
+
+-- as many words stand behind the fixed ones as the places ask for, or more
+room_by : (fm : Format) (t : Bool) (n m : ℕ) (b : Bool) → (n == m || (t && (has_events fm m n && b))) ≡ true → m ≤ n
+room_by fm t n m b h = elim (or_cases (n == m) _ h) [
+  | inl e ↦ (let k : n ≡ m = eqb-true n m e in omega arith)
+  | inr e ↦ (let p = and_parts t (has_events fm m n && b) e in let q = and_parts (has_events fm m n) b p.1 in let k : m + 2 ≤ n = events_long fm m n q.0 in omega arith)
+]
 
 pub places_there : WordsFillPlaces
 places_there fm kind ws h =
     let p = and_parts (starts_with same_word ws (form_of kind).words) _ h in
     let q = and_parts (has_since (form_of kind).since fm) _ p.1 in
     let r = and_parts _ (list_all (λ (x : Placed). is_own_word x.0 x.1) (zip (form_of kind).places (drop (length (form_of kind).words) ws))) q.1 in
-    room_by (form_of kind).takes_on (length (drop (length (form_of kind).words) ws)) (length (form_of kind).places) _ r.0
+    room_by fm (form_of kind).takes_on (length (drop (length (form_of kind).words) ws)) (length (form_of kind).places) _ r.0
+
+-- words of the form of a kind are as many as its fixed ones at least
+pub fixed_there : (fm : Format) (kind : Kind) (ws : List (List ℕ)) → is_of_form fm ws (form_of kind) ≡ true → length (kind_words kind) ≤ length ws
+fixed_there fm kind ws h =
+    let p = and_parts (starts_with same_word ws (kind_words kind)) _ h in
+    let cut : ws ≡ kind_words kind ++ drop (length (kind_words kind)) ws = (starts_is (λ a b. bytes_eq-Decides a b) ws (kind_words kind) (starts_with same_word ws (kind_words kind)) refl).0 p.0 in
+    omega (arith, ap length cut, length-append (kind_words kind) (drop (length (kind_words kind)) ws))
+
+-- a line of a merge that ignores faults
+pub ignoring_line : (g : GraphValue) (name : List ℕ) (ws : List (List ℕ)) (v : List ℕ) → v ≡ at ws 0 → bytes_eq v (codes "merge") ≡ false → bytes_eq v (codes "mergei") ≡ true → line_draft g name ws ≡ merge_draft g name MergeIgnore (drop 1 ws)
+ignoring_line g name [] v e a b = absurd (true≢false (sym b ∙ ap (λ x. bytes_eq x (codes "mergei")) e))
+ignoring_line g name (w ∷ ws) v e a b =
+    cond-false (bytes_eq w (codes "merge")) (merge_draft g name Merge ws) _ (ap (λ x. bytes_eq x (codes "merge")) (sym e) ∙ a)
+    ∙ cond-true (bytes_eq w (codes "mergei")) (merge_draft g name MergeIgnore ws) _ (ap (λ x. bytes_eq x (codes "mergei")) (sym e) ∙ b)
 
 pub merge_shape : (g : GraphValue) (name : List ℕ) (verb : List ℕ → Verb) (ws : List (List ℕ)) → 2 ≤ length ws → merge_draft g name verb (drop 1 ws) ≡ Some (merge_with g name verb (drop 1 ws))
 merge_shape g name verb [] h = absurd (omega arith)

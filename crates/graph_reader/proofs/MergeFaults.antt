@@ -1,8 +1,8 @@
 -- What refuses the words of a merge.
-use Rattle.std.proofs.Common.{◌≡◌, ℕ, Bool, true, false, cond, not, ◌&&◌, ◌||◌, List, [], ◌∷◌, map, eq-eqb, eqb-true, true≢false, refl, sym, ◌∙◌, ap}
+use Rattle.std.proofs.Common.{◌≡◌, ℕ, Bool, true, false, cond, not, ◌||◌, List, [], ◌∷◌, map, eq-eqb, eqb-true, true≢false, refl, sym, ◌∙◌, ap}
 use Rattle.std.proofs.lemmas.Bool.{and_parts, and_from}
 use Rattle.std.specs.Cmp.Derive.{one_truth}
-use Rattle.std.specs.Prelude.{Option, Some, None, Err, is_some, nat_eq, bytes_eq, filter_map}
+use Rattle.std.specs.Prelude.{Option, Some, None, Err, is_some, nat_eq, bytes_eq}
 use Rattle.std.specs.List.{list_any, list_all}
 use Rattle.graph_terms.specs.declared.verb.Verb.{Verb}
 use Rattle.graph_terms.specs.declared.why.Why.{Why}
@@ -11,8 +11,8 @@ use Rattle.graph_terms.specs.Graph.{GraphValue}
 use Rattle.graph_terms.specs.Spelling.{line_name}
 use Rattle.graph_terms.specs.Name.{is_name_in}
 use Rattle.graph_terms.specs.Fits.{IsGraph, first_reason, repeats, is_used, line_fault}
-use Rattle.graph_words.specs.Draft.{Place, EventName, Placed, merge_with, line_number}
-use Rattle.graph_reader.specs.FirstFault.{misnamed, twice, unknown, unlike, misnumbered, misordered, event_word, column_word, is_line_name, draft_tests, draft_fault, or_else, item_fault}
+use Rattle.graph_words.specs.Draft.{Place, EventName, Placed, events_placed, merge_with, line_number}
+use Rattle.graph_reader.specs.FirstFault.{misnamed, twice, unknown, unlike, misnumbered, misordered, is_line_name, draft_tests, draft_fault, or_else, item_fault}
 use Rattle.graph_reader.specs.Merges.{merge_verb, merge_line, merge_reason, all_lines, IsMergeError}
 use Rattle.graph_reader.specs.Reading.{IsLineRead}
 use Rattle.graph_reader.specs.declared.item.ItemError.{ItemError}
@@ -21,31 +21,8 @@ use Rattle.basics.proofs.TestedLists.{same_bytes, bytes_same, any_map}
 use Rattle.graph_reader.proofs.Owners.{owner, used_is, unused_misnamed}
 use Rattle.graph_reader.proofs.Places.{line_as}
 use Rattle.basics.proofs.Choices.{or_true}
-use Rattle.graph_reader.proofs.FormFaults.{first_fails, or_false}
-
-abbrev events : List (List ℕ) → List Placed
-events es = map (λ w. (EventName, w)) es
-
-none_of : (es : List (List ℕ)) → list_any (λ w. false) es ≡ false
-none_of [] = refl
-none_of (e ∷ es) = none_of es
-
-events_are : (es : List (List ℕ)) → filter_map (λ (p : Placed). event_word p.0 p.1) (events es) ≡ es
-events_are [] = refl
-events_are (e ∷ es) = ap (λ x. e ∷ x) (events_are es)
-
-no_columns : (es : List (List ℕ)) → filter_map (λ (p : Placed). column_word p.0 p.1) (events es) ≡ []
-no_columns [] = refl
-no_columns (e ∷ es) = no_columns es
-
-not_and : (b c d : Bool) → c ≡ not d → (not b || c) ≡ not (b && d)
-not_and true c d h = h
-not_and false c d h = refl
-
--- some fail where not all pass
-some_fail : (t : List ℕ → Bool) (es : List (List ℕ)) → list_any (λ w. not (t w)) es ≡ not (list_all t es)
-some_fail t [] = refl
-some_fail t (e ∷ es) = not_and (t e) (list_any (λ w. not (t w)) es) (list_all t es) (some_fail t es)
+use Rattle.graph_reader.proofs.Drafts.{events_listed, events_no_columns}
+use Rattle.graph_reader.proofs.FormFaults.{first_fails, or_false, none_of, some_fail}
 
 all_also : (s t : List ℕ → Bool) → ((w : List ℕ) → s w ≡ true → t w ≡ true) → (es : List (List ℕ)) → list_all s es ≡ true → list_all t es ≡ true
 all_also s t k [] h = refl
@@ -97,7 +74,7 @@ six_to_four a x b y c z d w e f p q r s t u =
 
 module _ (g : GraphValue) (name : List ℕ) (verb : List ℕ → Verb) (es : List (List ℕ)) where
   abbrev at_events : (Place → List ℕ → Bool) → Bool
-  at_events t = list_any (λ (p : Placed). t p.0 p.1) (events es)
+  at_events t = list_any (λ (p : Placed). t p.0 p.1) (events_placed es)
 
   mapped : (t : Place → List ℕ → Bool) → at_events t ≡ list_any (λ w. t EventName w) es
   mapped t = any_map (λ (p : Placed). t p.0 p.1) (λ w. (EventName, w)) es
@@ -107,7 +84,7 @@ module _ (g : GraphValue) (name : List ℕ) (verb : List ℕ → Verb) (es : Lis
   merge_reason_is n = six_to_four (not (is_name_in g.format name) || at_events (misnamed g.format)) (not (list_all (is_name_in g.format) es)) _ (is_used g name || repeats bytes_eq es) (at_events (unknown g)) (list_any (λ w. not (is_used g w)) es)
       (at_events (unlike g)) (list_any (λ w. not (is_line_name g w)) es) (at_events misnumbered) (at_events misordered)
       (ap (λ b. not b || at_events (misnamed g.format)) n ∙ (mapped (misnamed g.format) ∙ some_fail (is_name_in g.format) es))
-      (or_merge (is_used g name) (at_events (twice g)) _ _ (mapped (twice g) ∙ none_of es) (ap (repeats bytes_eq) (no_columns es)) ∙ ap (λ x. is_used g name || repeats bytes_eq x) (events_are es))
+      (or_merge (is_used g name) (at_events (twice g)) _ _ (mapped (twice g) ∙ none_of es) (ap (repeats bytes_eq) (events_no_columns es)) ∙ ap (λ x. is_used g name || repeats bytes_eq x) (events_listed es))
       (mapped (unknown g)) (mapped (unlike g)) (mapped misnumbered ∙ none_of es) (mapped misordered ∙ none_of es)
 
   pub merge_refused : (w : Why) → is_name_in g.format name ≡ true → merge_reason g name es ≡ Some w → draft_fault g (merge_with g name verb es) ≡ Some w

@@ -47,6 +47,22 @@ none_left (p ∷ ps) (suc i) h = none_left ps i (omega arith)
 pub columns_over : (ps : List table.Place) (ws : List (List ℕ)) (i : ℕ) → length ps ≤ i → columns_twice (drop i ps) (drop i ws) ≡ false
 columns_over ps ws i h = ap (λ qs. columns_twice qs (drop i ws)) (none_left ps i h)
 
+-- words that stand twice, from one place on
+abbrev pub stands_later : List (List ℕ) → ℕ → Bool
+stands_later ws i = list_any (bytes_eq (slice_index_or ws i [])) (drop (i + 1) ws)
+
+pub repeats_next : (ws : List (List ℕ)) (i : ℕ) → i < length ws → repeats bytes_eq (drop i ws) ≡ (stands_later ws i || repeats bytes_eq (drop (i + 1) ws))
+repeats_next [] i h = absurd (omega arith)
+repeats_next (w ∷ ws) zero h = refl
+repeats_next (w ∷ ws) (suc i) h = repeats_next ws i (omega arith)
+    ∙ ap (λ m. list_any (bytes_eq (slice_index_or ws i [])) (drop m (w ∷ ws)) || repeats bytes_eq (drop m (w ∷ ws))) (let e : suc (i + 1) ≡ suc i + 1 = omega arith in e)
+
+pub repeats_over : (ws : List (List ℕ)) (i : ℕ) → length ws ≤ i → repeats bytes_eq (drop i ws) ≡ false
+repeats_over [] zero h = refl
+repeats_over [] (suc i) h = refl
+repeats_over (w ∷ ws) zero h = absurd (omega arith)
+repeats_over (w ∷ ws) (suc i) h = repeats_over ws i (omega arith)
+
 -- one more number
 pub set_next : (f : ℕ → ℕ) (xs : List ℕ) (i x : ℕ) → i < length xs → ((j : ℕ) → j < i → slice_index xs j ≡ f j) → x ≡ f i → (j : ℕ) → j < i + 1 → slice_index (slice_set xs i x) j ≡ f j
 set_next f xs i x l h e j b = elim (cases_eq j i) [

@@ -1,9 +1,9 @@
 -- An item that fits is read back from its words, and no reason refuses them.
-use Rattle.std.proofs.Common.{◌≡◌, ℕ, ◌+◌, ◌<◌, ◌≤◌, true, false, cond, not, ◌⊎◌, inl, inr, List, [], ◌∷◌, ◌++◌, length, map, refl, sym, ◌∙◌, ap, subst, append-nil, arith}
-use Rattle.std.specs.Prelude.{Option, Some, None, is_some, codes, bytes_eq, nat_eq, nat_lt, zip, decimal, slice_index_or, unwrap_or, option_map}
+use Rattle.std.proofs.Common.{◌≡◌, ℕ, ◌<◌, ◌≤◌, true, false, not, ◌⊎◌, inl, inr, List, [], ◌∷◌, ◌++◌, length, map, ◌&&◌, refl, sym, ◌∙◌, ap, subst, append-nil, arith}
+use Rattle.std.specs.Prelude.{Option, Some, None, is_some, codes, bytes_eq, nat_eq, nat_lt, zip, decimal, unwrap_or, option_map}
 use Rattle.std.specs.Option.{option_map_or}
 use Rattle.std.specs.List.{list_any, list_all, AllByRecursion}
-use Rattle.std.proofs.lemmas.Bool.{true≢false, or_parts, and_parts, false_from_ne_true, not_from_true, cond-true, cond-false, ltb-false, leb-false}
+use Rattle.std.proofs.lemmas.Bool.{true≢false, or_parts, and_parts, false_from_ne_true, not_from_true, and_from, cond-false, ltb-false, leb-false, lt-ltb}
 use Rattle.std.proofs.lemmas.List.Elements.{filter_map-append}
 use Rattle.index_spaces.specs.declared.Op.{Op}
 use Rattle.index_spaces.specs.declared.Op.TheVariants as op
@@ -18,16 +18,16 @@ use Rattle.graph_terms.specs.declared.why.Why.TheVariants.{Syntax}
 use Rattle.graph_terms.specs.Name.{is_name_in}
 use Rattle.graph_terms.specs.Graph.{GraphValue, named_spaces}
 use Rattle.graph_terms.specs.Spelling.{space_name, line_name, column_name, op_word, interval_word, comma_word, decl_words, verb_words, on_words, line_words}
-use Rattle.graph_terms.specs.Fits.{repeats, on_lines, is_used, decl_fault, line_fault, IsDecl, is_decl_named, IsLine, IsGraph}
+use Rattle.graph_terms.specs.Fits.{repeats, is_used, takes_no_on, on_unlike, decl_fault, line_fault, IsDecl, is_decl_named, IsLine, IsGraph}
 use Rattle.graph_words.specs.Words.{pieces, intervals_of, ascend_from, is_fields}
-use Rattle.graph_words.specs.Draft.{number_in_place, NewName, SpaceName, EventName, Fields, Value, Count, Intervals, Placed, Draft, Form, number_in, same_word, has_on, on_placed, form_draft, merge_draft, line_number, space_number, column_number_of, op_of, barrier_with, decl_draft, decl_draft_after, draft}
+use Rattle.graph_words.specs.Draft.{number_in_place, NewName, SpaceName, Fields, Value, Count, Intervals, Placed, Draft, Form, number_in, same_word, on_events, events_placed, form_draft, merge_draft, line_number, space_number, column_number_of, op_of, barrier_with, decl_draft, decl_draft_after, draft}
 use Rattle.graph_reader.specs.FirstFault.{event_word, column_word, item_fault, draft_fault, words_fault, is_empty}
 use Rattle.basics.proofs.TestedLists.{same_bytes, none_from_each, each_append, each_weaker}
 use Rattle.graph_reader.proofs.WordFacts.{name_is_word, intervals_of-word, intervals_is_word, intervals_bounded, ascends, field_pieces, names_each, joined_is_word}
 use Rattle.graph_reader.specs.Words.{IsWord}
 use Rattle.graph_reader.proofs.GraphNames.{IsNamed, is_named}
 use Rattle.graph_reader.proofs.Places.{IsFine, place_reads, event_word_at, event_reads}
-use Rattle.graph_reader.proofs.Drafts.{EachFine, event_words, column_words, IsFineDraft, no_draft_fault, IsNoEvent, spell_list, FitPlaces, placed_fine, placed_numbers, placed_words, columns_in, placed_events, placed_columns, names_repeat, columns_read, word_by_test}
+use Rattle.graph_reader.proofs.Drafts.{EachFine, event_words, column_words, IsFineDraft, no_draft_fault, IsNoEvent, spell_list, FitPlaces, placed_fine, placed_numbers, placed_words, columns_in, placed_events, placed_columns, events_listed, events_no_columns, names_repeat, columns_read, word_by_test}
 use Rattle.graph_words.proofs.Public.{known_line_of, known_decl_of}
 use Rattle.graph_words.specs.Known.{IsKnownLine, IsKnownDecl}
 use Rattle.graph_reader.proofs.VerbForms.{IsFormed, formed}
@@ -79,95 +79,16 @@ new_name : (g : GraphValue) (name : List ℕ) → is_name_in g.format name ≡ t
 new_name g name h u = record { named = not_from_true (is_name_in g.format name) h; once = u; known = refl; alike = refl; numbered = refl; ordered = refl }
 
 -- lines by their forms
-abbrev make_line : List ℕ → Verb → Option ℕ → Line
+abbrev make_line : List ℕ → Verb → List ℕ → Line
 make_line name verb on = record { name = name; verb = verb; on = on }
-
-abbrev placed_event : List ℕ → List Placed
-placed_event w = (EventName, w) ∷ []
 
 abbrev line_item : Line → Item
 line_item l = inr l
 
-abbrev placed_on : GraphValue → Option ℕ → List Placed
-placed_on g None = []
-placed_on g (Some e) = (EventName, line_name g e) ∷ []
+abbrev placed_on : GraphValue → List ℕ → List Placed
+placed_on g on = events_placed (map (line_name g) on)
 
-on_placed_is : (g : GraphValue) (f : Form) (xs : List (List ℕ)) (o : Option ℕ) → has_on f (xs ++ on_words g o) ≡ is_some o → ((w : List ℕ) → slice_index_or (xs ++ codes "on" ∷ w ∷ []) (length f.places + 1) [] ≡ w) →
-    on_placed f (xs ++ on_words g o) ≡ placed_on g o
-on_placed_is g f xs None h last = cond-false (has_on f (xs ++ [])) _ [] h
-on_placed_is g f xs (Some e) h last = cond-true (has_on f (xs ++ codes "on" ∷ line_name g e ∷ [])) _ [] h ∙ ap placed_event (last (line_name g e))
-
-on_number_is : (g : GraphValue) → IsNamed g → (f : Form) (xs : List (List ℕ)) (o : Option ℕ) → has_on f (xs ++ on_words g o) ≡ is_some o → ((w : List ℕ) → slice_index_or (xs ++ codes "on" ∷ w ∷ []) (length f.places + 1) [] ≡ w) →
-    AllByRecursion (λ i. i < length g.lines) (on_lines o) →
-    cond (has_on f (xs ++ on_words g o)) (Some (line_number g (slice_index_or (xs ++ on_words g o) (length f.places + 1) []))) None ≡ o
-on_number_is g n f xs None h last b = cond-false (has_on f (xs ++ [])) _ None h
-on_number_is g n f xs (Some e) h last b = cond-true (has_on f (xs ++ codes "on" ∷ line_name g e ∷ [])) _ None h
-    ∙ (ap (λ w. Some (line_number g w)) (last (line_name g e)) ∙ ap Some (event_word_at g n e b.0).number_is)
-
-placed_on_fine : (g : GraphValue) → IsNamed g → (o : Option ℕ) → AllByRecursion (λ i. i < length g.lines) (on_lines o) → EachFine g (placed_on g o)
-placed_on_fine g n None b = tt
-placed_on_fine g n (Some e) b = ((event_reads g e (line_name g e) (event_word_at g n e b.0)).fine, tt)
-
-on_words_are : (g : GraphValue) → IsNamed g → (o : Option ℕ) → AllByRecursion (λ i. i < length g.lines) (on_lines o) → AllByRecursion IsWord (on_words g o)
-on_words_are g n None b = tt
-on_words_are g n (Some e) b = (word_by_test (codes "on") refl, ((event_reads g e (line_name g e) (event_word_at g n e b.0)).word, tt))
-
-on_events : (g : GraphValue) (o : Option ℕ) → repeats bytes_eq (event_words (placed_on g o)) ≡ false
-on_events g None = refl
-on_events g (Some e) = refl
-
-on_columns : (g : GraphValue) (o : Option ℕ) → column_words (placed_on g o) ≡ []
-on_columns g None = refl
-on_columns g (Some e) = refl
-
--- the words that stand in places, of a draft by a form
-form_placed : (g : GraphValue) → IsNamed g → (name : List ℕ) (f : Form) (ns : List ℕ) (o : Option ℕ) (ps : List Placed) → IsFine g NewName name → FitPlaces g f.places ns → AllByRecursion IsNoEvent f.places →
-    repeats nat_eq (columns_in f.places ns) ≡ false → AllByRecursion (λ i. i < length g.lines) (on_lines o) → ps ≡ (NewName, name) ∷ zip f.places (spell_list g f.places ns ++ on_words g o) ++ placed_on g o →
-    EachFine g ps × (repeats bytes_eq (event_words ps) ≡ false) × (repeats bytes_eq (column_words ps) ≡ false)
-form_placed g n name f ns o ps new fits none once b e =
-    let front : List Placed = zip f.places (spell_list g f.places ns ++ on_words g o) in
-    let events : event_words (front ++ placed_on g o) ≡ event_words (placed_on g o) =
-    filter_map-append (λ (p : Placed). event_word p.0 p.1) front (placed_on g o) ∙ ap (λ xs. xs ++ event_words (placed_on g o)) (placed_events g f.places (spell_list g f.places ns ++ on_words g o) none) in
-    let cols : column_words (front ++ placed_on g o) ≡ map (column_name g) (columns_in f.places ns) =
-    filter_map-append (λ (p : Placed). column_word p.0 p.1) front (placed_on g o)
-    ∙ (ap (λ xs. column_words front ++ xs) (on_columns g o) ∙ (append-nil (column_words front) ∙ placed_columns g f.places ns (on_words g o) fits)) in (
-      subst (EachFine g) (sym e) (new, each_append (λ (p : Placed). IsFine g p.0 p.1) front (placed_on g o) (placed_fine g n f.places ns (on_words g o) fits) (placed_on_fine g n o b)),
-      ap (λ qs. repeats bytes_eq (event_words qs)) e ∙ (ap (repeats bytes_eq) events ∙ on_events g o),
-      ap (λ qs. repeats bytes_eq (column_words qs)) e ∙ (ap (repeats bytes_eq) cols ∙ names_repeat (column_name g) (λ w. column_number_of g (pieces 46 w)) (columns_in f.places ns) (columns_read g n f.places ns fits) once),
-    )
-
-line_by_form : (g : GraphValue) → IsNamed g → (l : Line) → is_name_in g.format l.name ≡ true → line_fault g l ≡ None → IsKnownLine g l → IsFormed g l.verb → ReadsBack g (inr l)
-line_by_form g n l is fits k f =
-    let d = f.drafts l.name l.on k.takes_on in
-    let rest : List (List ℕ) = spell_list g f.form.places f.numbers ++ on_words g l.on in
-    let draft_is : Draft = form_draft g l.name rest f.form in
-    let verb : f.form.verb (map (number_in g) (zip f.form.places rest)) ≡ l.verb = ap f.form.verb (placed_numbers g n f.form.places f.numbers (on_words g l.on) f.fits) ∙ f.verb_is in
-    let on : cond (has_on f.form rest) (Some (line_number g (slice_index_or rest (length f.form.places + 1) []))) None ≡ l.on = on_number_is g n f.form (spell_list g f.form.places f.numbers) l.on d.has f.last k.on_below in
-    let same : draft_is.item ≡ inr l =
-    ap (λ v. line_item (make_line l.name v (cond (has_on f.form rest) (Some (line_number g (slice_index_or rest (length f.form.places + 1) []))) None))) verb ∙ ap (λ o. line_item (make_line l.name l.verb o)) on in
-    let placed = form_placed g n l.name f.form f.numbers l.on draft_is.placed (new_name g l.name is k.new) f.fits f.no_events f.columns_once k.on_below
-    (ap (λ (qs : List Placed). (NewName, l.name) ∷ zip f.form.places rest ++ qs) (on_placed_is g f.form (spell_list g f.form.places f.numbers) l.on d.has f.last)) in
-    back_from g (inr l) draft_is d.is same
-    (record { each = placed.0; events = placed.1; columns = placed.2; item = ap (item_fault g) same ∙ fits }) (
-      name_is_word g.format l.name is,
-      (
-        word_by_test (codes "=") refl,
-        each_append IsWord (verb_words g l.verb) (on_words g l.on)
-            (subst (AllByRecursion IsWord) (sym f.words_are) (each_append IsWord f.form.words (spell_list g f.form.places f.numbers) f.fixed (placed_words g n f.form.places f.numbers f.fits))) (on_words_are g n l.on k.on_below),
-      ),
-    )
-    (omega arith)
-
--- merges
-named_events : (ws : List (List ℕ)) → event_words (map (λ w. (EventName, w)) ws) ≡ ws
-named_events [] = refl
-named_events (w ∷ ws) = ap (λ xs. w ∷ xs) (named_events ws)
-
-no_columns : (ws : List (List ℕ)) → column_words (map (λ w. (EventName, w)) ws) ≡ []
-no_columns [] = refl
-no_columns (w ∷ ws) = no_columns ws
-
-events_fine : (g : GraphValue) → IsNamed g → (es : List ℕ) → AllByRecursion (λ i. i < length g.lines) es → EachFine g (map (λ w. (EventName, w)) (map (line_name g) es))
+events_fine : (g : GraphValue) → IsNamed g → (es : List ℕ) → AllByRecursion (λ i. i < length g.lines) es → EachFine g (placed_on g es)
 events_fine g n [] b = tt
 events_fine g n (e ∷ es) b = ((event_reads g e (line_name g e) (event_word_at g n e b.0)).fine, events_fine g n es b.1)
 
@@ -183,11 +104,54 @@ events_words : (g : GraphValue) → IsNamed g → (es : List ℕ) → AllByRecur
 events_words g n [] b = tt
 events_words g n (e ∷ es) b = ((event_reads g e (line_name g e) (event_word_at g n e b.0)).word, events_words g n es b.1)
 
+on_words_are : (g : GraphValue) → IsNamed g → (on : List ℕ) → AllByRecursion (λ i. i < length g.lines) on → AllByRecursion IsWord (on_words g on)
+on_words_are g n [] b = tt
+on_words_are g n (e ∷ es) b = (word_by_test (codes "on") refl, events_words g n (e ∷ es) b)
+
+-- the words that stand in places, of a draft by a form
+form_placed : (g : GraphValue) → IsNamed g → (name : List ℕ) (f : Form) (ns : List ℕ) (on : List ℕ) (ps : List Placed) → IsFine g NewName name → FitPlaces g f.places ns → AllByRecursion IsNoEvent f.places →
+    repeats nat_eq (columns_in f.places ns) ≡ false → AllByRecursion (λ i. i < length g.lines) on → repeats nat_eq on ≡ false → ps ≡ (NewName, name) ∷ zip f.places (spell_list g f.places ns ++ on_words g on) ++ placed_on g on →
+    EachFine g ps × (repeats bytes_eq (event_words ps) ≡ false) × (repeats bytes_eq (column_words ps) ≡ false)
+form_placed g n name f ns on ps new fits none once b apart e =
+    let front : List Placed = zip f.places (spell_list g f.places ns ++ on_words g on) in
+    let events : event_words (front ++ placed_on g on) ≡ event_words (placed_on g on) =
+    filter_map-append (λ (p : Placed). event_word p.0 p.1) front (placed_on g on) ∙ ap (λ xs. xs ++ event_words (placed_on g on)) (placed_events g f.places (spell_list g f.places ns ++ on_words g on) none) in
+    let cols : column_words (front ++ placed_on g on) ≡ map (column_name g) (columns_in f.places ns) =
+    filter_map-append (λ (p : Placed). column_word p.0 p.1) front (placed_on g on)
+    ∙ (ap (λ xs. column_words front ++ xs) (events_no_columns (map (line_name g) on)) ∙ (append-nil (column_words front) ∙ placed_columns g f.places ns (on_words g on) fits)) in (
+      subst (EachFine g) (sym e) (new, each_append (λ (p : Placed). IsFine g p.0 p.1) front (placed_on g on) (placed_fine g n f.places ns (on_words g on) fits) (events_fine g n on b)),
+      ap (λ qs. repeats bytes_eq (event_words qs)) e ∙ (ap (repeats bytes_eq) (events ∙ events_listed (map (line_name g) on)) ∙ names_repeat (line_name g) (line_number g) on (events_read g n on b) apart),
+      ap (λ qs. repeats bytes_eq (column_words qs)) e ∙ (ap (repeats bytes_eq) cols ∙ names_repeat (column_name g) (λ w. column_number_of g (pieces 46 w)) (columns_in f.places ns) (columns_read g n f.places ns fits) once),
+    )
+
+line_by_form : (g : GraphValue) → IsNamed g → (l : Line) → is_name_in g.format l.name ≡ true → line_fault g l ≡ None → IsKnownLine g l → IsFormed g l.verb → ReadsBack g (inr l)
+line_by_form g n l is fits k f =
+    let d = f.drafts l.name l.on k.takes_on in
+    let rest : List (List ℕ) = spell_list g f.form.places f.numbers ++ on_words g l.on in
+    let draft_is : Draft = form_draft g l.name rest f.form in
+    let verb : f.form.verb (map (number_in g) (zip f.form.places rest)) ≡ l.verb = ap f.form.verb (placed_numbers g n f.form.places f.numbers (on_words g l.on) f.fits) ∙ f.verb_is in
+    let on : map (line_number g) (on_events g.format f.form rest) ≡ l.on = ap (map (line_number g)) d.events ∙ events_numbers g l.on (events_read g n l.on k.on_below) in
+    let same : draft_is.item ≡ inr l =
+    ap (λ v. line_item (make_line l.name v (map (line_number g) (on_events g.format f.form rest)))) verb ∙ ap (λ o. line_item (make_line l.name l.verb o)) on in
+    let placed = form_placed g n l.name f.form f.numbers l.on draft_is.placed (new_name g l.name is k.new) f.fits f.no_events f.columns_once k.on_below k.on_once
+    (ap (λ ws. (NewName, l.name) ∷ zip f.form.places rest ++ events_placed ws) d.events) in
+    back_from g (inr l) draft_is d.is same
+    (record { each = placed.0; events = placed.1; columns = placed.2; item = ap (item_fault g) same ∙ fits }) (
+      name_is_word g.format l.name is,
+      (
+        word_by_test (codes "=") refl,
+        each_append IsWord (verb_words g l.verb) (on_words g l.on)
+            (subst (AllByRecursion IsWord) (sym f.words_are) (each_append IsWord f.form.words (spell_list g f.form.places f.numbers) f.fixed (placed_words g n f.form.places f.numbers f.fits))) (on_words_are g n l.on k.on_below),
+      ),
+    )
+    (omega arith)
+
+-- merges
 -- a draft of a merge
 pub record IsMergeDraft (g : GraphValue) (name : List ℕ) (mk : List ℕ → Verb) (es : List ℕ) : Type 0 where
   pub drafted : Draft
   pub is : merge_draft g name mk (map (line_name g) es) ≡ Some drafted
-  pub item_is : drafted.item ≡ inr (make_line name (mk es) None)
+  pub item_is : drafted.item ≡ inr (make_line name (mk es) [])
   pub each : EachFine g drafted.placed
   pub events : repeats bytes_eq (event_words drafted.placed) ≡ false
   pub columns : repeats bytes_eq (column_words drafted.placed) ≡ false
@@ -195,49 +159,52 @@ pub record IsMergeDraft (g : GraphValue) (name : List ℕ) (mk : List ℕ → Ve
 merge_drafted : (g : GraphValue) → IsNamed g → (name : List ℕ) (mk : List ℕ → Verb) (es : List ℕ) → IsFine g NewName name → 0 < length es → AllByRecursion (λ i. i < length g.lines) es → repeats nat_eq es ≡ false → IsMergeDraft g name mk es
 merge_drafted g n name mk [] new some b once = absurd (omega arith)
 merge_drafted g n name mk (e ∷ es) new some b once =
-    let placed : List Placed = (NewName, name) ∷ map (λ w. (EventName, w)) (map (line_name g) (e ∷ es)) in
+    let placed : List Placed = (NewName, name) ∷ placed_on g (e ∷ es) in
     record {
-      drafted = record { placed = placed; item = inr (make_line name (mk (map (line_number g) (map (line_name g) (e ∷ es)))) None) };
+      drafted = record { placed = placed; item = inr (make_line name (mk (map (line_number g) (map (line_name g) (e ∷ es)))) []) };
       is = refl;
-      item_is = ap (λ ns. line_item (make_line name (mk ns) None)) (events_numbers g (e ∷ es) (events_read g n (e ∷ es) b));
+      item_is = ap (λ ns. line_item (make_line name (mk ns) [])) (events_numbers g (e ∷ es) (events_read g n (e ∷ es) b));
       each = (new, events_fine g n (e ∷ es) b);
-      events = ap (repeats bytes_eq) (named_events (map (line_name g) (e ∷ es))) ∙ names_repeat (line_name g) (line_number g) (e ∷ es) (events_read g n (e ∷ es) b) once;
-      columns = ap (repeats bytes_eq) (no_columns (map (line_name g) (e ∷ es)));
+      events = ap (repeats bytes_eq) (events_listed (map (line_name g) (e ∷ es))) ∙ names_repeat (line_name g) (line_number g) (e ∷ es) (events_read g n (e ∷ es) b) once;
+      columns = ap (repeats bytes_eq) (events_no_columns (map (line_name g) (e ∷ es)));
     }
 
 some_events : (es : List ℕ) → nat_lt (length es) 1 ≡ false → 0 < length es
 some_events es h = let l : 1 ≤ length es = ltb-false (length es) 1 h in omega arith
 
-no_on : (o : Option ℕ) → is_some o ≡ false → o ≡ None
-no_on None h = refl
-no_on (Some e) h = absurd (true≢false h)
+no_on : (g : GraphValue) (v : Verb) (on : List ℕ) → takes_no_on v ≡ true → on_unlike g.format v on ≡ false → on ≡ []
+no_on g v [] t h = refl
+no_on g v (e ∷ es) t h =
+    let some : nat_lt 0 (length (e ∷ es)) ≡ true = lt-ltb 0 (length (e ∷ es)) (omega arith) in
+    let none = or_parts (takes_no_on v && nat_lt 0 (length (e ∷ es))) _ h in
+    absurd (true≢false (sym (and_from (takes_no_on v) (nat_lt 0 (length (e ∷ es))) t some) ∙ none.0))
 
-merge_reads : (g : GraphValue) → IsNamed g → (name : List ℕ) (es : List ℕ) (o : Option ℕ) → is_name_in g.format name ≡ true → line_fault g (make_line name (Merge es) o) ≡ None → IsKnownLine g (make_line name (Merge es) o) → o ≡ None →
-    ReadsBack g (inr (make_line name (Merge es) o))
-merge_reads g n name es (Some e) is fits k none = absurd (true≢false (ap is_some none))
-merge_reads g n name es None is fits k none =
+merge_reads : (g : GraphValue) → IsNamed g → (name : List ℕ) (es : List ℕ) (on : List ℕ) → is_name_in g.format name ≡ true → line_fault g (make_line name (Merge es) on) ≡ None → IsKnownLine g (make_line name (Merge es) on) → on ≡ [] →
+    ReadsBack g (inr (make_line name (Merge es) on))
+merge_reads g n name es (e ∷ on) is fits k none = absurd (cc)
+merge_reads g n name es [] is fits k none =
     let m = merge_drafted g n name Merge es (new_name g name is k.new) (some_events es k.verb.counted) k.verb.events k.verb.once in
-    back_from g (inr (make_line name (Merge es) None)) m.drafted
+    back_from g (inr (make_line name (Merge es) [])) m.drafted
     (ap (λ ws. merge_draft g name Merge ws) (append-nil (map (line_name g) es)) ∙ m.is) m.item_is
     (record { each = m.each; events = m.events; columns = m.columns; item = ap (item_fault g) m.item_is ∙ fits })
     (name_is_word g.format name is, (word_by_test (codes "=") refl, (word_by_test (codes "merge") refl, each_append IsWord (map (line_name g) es) [] (events_words g n es k.verb.events) tt)))
     (omega arith)
 
-mergei_reads : (g : GraphValue) → IsNamed g → (name : List ℕ) (es : List ℕ) (o : Option ℕ) → is_name_in g.format name ≡ true → line_fault g (make_line name (MergeIgnore es) o) ≡ None → IsKnownLine g (make_line name (MergeIgnore es) o) → o ≡ None →
-    ReadsBack g (inr (make_line name (MergeIgnore es) o))
-mergei_reads g n name es (Some e) is fits k none = absurd (true≢false (ap is_some none))
-mergei_reads g n name es None is fits k none =
+mergei_reads : (g : GraphValue) → IsNamed g → (name : List ℕ) (es : List ℕ) (on : List ℕ) → is_name_in g.format name ≡ true → line_fault g (make_line name (MergeIgnore es) on) ≡ None → IsKnownLine g (make_line name (MergeIgnore es) on) → on ≡ [] →
+    ReadsBack g (inr (make_line name (MergeIgnore es) on))
+mergei_reads g n name es (e ∷ on) is fits k none = absurd (cc)
+mergei_reads g n name es [] is fits k none =
     let m = merge_drafted g n name MergeIgnore es (new_name g name is k.new) (some_events es k.verb.counted) k.verb.events k.verb.once in
-    back_from g (inr (make_line name (MergeIgnore es) None)) m.drafted
+    back_from g (inr (make_line name (MergeIgnore es) [])) m.drafted
     (ap (λ ws. merge_draft g name MergeIgnore ws) (append-nil (map (line_name g) es)) ∙ m.is) m.item_is
     (record { each = m.each; events = m.events; columns = m.columns; item = ap (item_fault g) m.item_is ∙ fits })
     (name_is_word g.format name is, (word_by_test (codes "=") refl, (word_by_test (codes "mergei") refl, each_append IsWord (map (line_name g) es) [] (events_words g n es k.verb.events) tt)))
     (omega arith)
 
-line_reads_by : (g : GraphValue) → IsNamed g → (name : List ℕ) (v : Verb) (o : Option ℕ) → is_name_in g.format name ≡ true → line_fault g (make_line name v o) ≡ None → IsKnownLine g (make_line name v o) → ReadsBack g (inr (make_line name v o))
-line_reads_by g n name (Merge es) o is fits k = merge_reads g n name es o is fits k (no_on o k.takes_on)
-line_reads_by g n name (MergeIgnore es) o is fits k = mergei_reads g n name es o is fits k (no_on o k.takes_on)
-line_reads_by g n name v o is fits k = line_by_form g n (make_line name v o) is fits k (formed g v _ refl k.verb)
+line_reads_by : (g : GraphValue) → IsNamed g → (name : List ℕ) (v : Verb) (on : List ℕ) → is_name_in g.format name ≡ true → line_fault g (make_line name v on) ≡ None → IsKnownLine g (make_line name v on) → ReadsBack g (inr (make_line name v on))
+line_reads_by g n name (Merge es) on is fits k = merge_reads g n name es on is fits k (no_on g (Merge es) on refl k.takes_on)
+line_reads_by g n name (MergeIgnore es) on is fits k = mergei_reads g n name es on is fits k (no_on g (MergeIgnore es) on refl k.takes_on)
+line_reads_by g n name v on is fits k = line_by_form g n (make_line name v on) is fits k (formed g v _ refl k.verb)
 
 pub line_reads : (g : GraphValue) → IsNamed g → (l : Line) → IsItem g (inr l) → line_fault g l ≡ None → ReadsBack g (inr l)
 line_reads g n l is fits = line_reads_by g n l.name l.verb l.on is.1 fits (known_line_of g l is.0 fits)

@@ -1,5 +1,5 @@
 -- What is to be said of a word by what it stands for.
-use Rattle.std.proofs.Common.{◌≡◌, ℕ, zero, suc, ◌+◌, ◌<◌, ◌≤◌, Bool, true, false, not, ◌&&◌, ◌||◌, List, [], ◌∷◌, ◌++◌, length, drop, refl, sym, ◌∙◌, ap, arith}
+use Rattle.std.proofs.Common.{◌≡◌, ℕ, zero, suc, ◌+◌, ◌<◌, ◌≤◌, Bool, true, false, not, ◌&&◌, ◌||◌, List, [], ◌∷◌, ◌++◌, length, take, drop, get_or, refl, sym, ◌∙◌, ap, subst, arith, Bor}
 use Rattle.std.specs.Prelude.{Option, Some, None, is_some, IfSome, position, bytes_eq, unwrap_or, slice_index_or}
 use Rattle.std.specs.Option.{option_map_or}
 use Rattle.std.specs.List.{list_any}
@@ -12,7 +12,8 @@ use Rattle.graph_terms.specs.declared.table.Place.TheVariants as places
 use Rattle.graph_terms.specs.declared.verb.Line.{Line}
 use Rattle.graph_terms.specs.Graph.{GraphValue, named_spaces, locks, barriers, line_passes, is_user, is_phase, is_acquire, is_release_of, ends_user}
 use Rattle.graph_terms.specs.Name.{is_name_in}
-use Rattle.graph_words.specs.Draft.{Place, as_place, Placed, line_number, words_in}
+use Rattle.graph_words.specs.Draft.{Place, EventName, as_place, Placed, events_placed, line_number, words_in}
+use Rattle.graph_words.specs.Words.{words_of}
 use Rattle.graph_reader.specs.FirstFault.{misnamed, twice, unknown, unlike, misnumbered, is_line_name}
 use Rattle.graph_reader.specs.Lookups.{IsFound, found_line, found_number, found_twice, found_alike}
 use Rattle.graph_reader.specs.Kinds.{NamesThing, Tells, AllTell, named_number, placed_value}
@@ -122,7 +123,7 @@ placed_over (p ∷ ps) (w ∷ ws) (suc i) h = placed_over ps ws i (omega arith)
 abbrev pub AnySoFar : (Placed → Bool) → Bool → List Placed → ℕ → Type 0
 AnySoFar t b ps i = (b || list_any t (drop i ps)) ≡ list_any t ps
 
-or_again : (a b c : Bool) → ((a || b) || c) ≡ (a || (b || c))
+pub or_again : (a b c : Bool) → ((a || b) || c) ≡ (a || (b || c))
 or_again true b c = refl
 or_again false b c = refl
 
@@ -152,3 +153,31 @@ all_tell_more g ps p w a c s h t misnamed_with twice_with unknown_with unlike_wi
   unlike = or_last (λ (q : Placed). unlike g q.0 q.1) ps (p, w) _ _ _ h.unlike t.unlike unlike_with;
   misnumbered = or_last (λ (q : Placed). misnumbered q.0 q.1) ps (p, w) _ _ _ h.misnumbered t.misnumbered misnumbered_with;
 }
+
+-- more words, by what is to be said of them
+or_both : (t : Placed → Bool) (ps qs : List Placed) (a b c : Bool) → a ≡ list_any t ps → b ≡ list_any t qs → c ≡ (a || b) → c ≡ list_any t (ps ++ qs)
+or_both t ps qs a b c h k e = e ∙ (ap (λ y. y || b) h ∙ (ap (λ y. list_any t ps || y) k ∙ sym (list_any-append t ps qs)))
+
+pub all_tell_both : (g : GraphValue) (ps qs : List Placed) (a b c : Faults) → AllTell g ps a → AllTell g qs b →
+    c.misnamed ≡ (a.misnamed || b.misnamed) → c.twice ≡ (a.twice || b.twice) → c.unknown ≡ (a.unknown || b.unknown) → c.unlike ≡ (a.unlike || b.unlike) → c.misnumbered ≡ (a.misnumbered || b.misnumbered) →
+    AllTell g (ps ++ qs) c
+all_tell_both g ps qs a b c h k misnamed_with twice_with unknown_with unlike_with misnumbered_with = record {
+  misnamed = or_both (λ (q : Placed). misnamed g.format q.0 q.1) ps qs _ _ _ h.misnamed k.misnamed misnamed_with;
+  twice = or_both (λ (q : Placed). twice g q.0 q.1) ps qs _ _ _ h.twice k.twice twice_with;
+  unknown = or_both (λ (q : Placed). unknown g q.0 q.1) ps qs _ _ _ h.unknown k.unknown unknown_with;
+  unlike = or_both (λ (q : Placed). unlike g q.0 q.1) ps qs _ _ _ h.unlike k.unlike unlike_with;
+  misnumbered = or_both (λ (q : Placed). misnumbered q.0 q.1) ps qs _ _ _ h.misnumbered k.misnumbered misnumbered_with;
+}
+
+-- events with one word more, by what is to be said of it
+pub events_tell_more : (g : GraphValue) (ws : List (Bor (List ℕ))) (i : ℕ) (d : Bor (List ℕ)) (a c : Faults) (s : Seen) → i < length ws → AllTell g (events_placed (take i (words_of ws))) a → Tells g EventName (get_or ws i d).now s →
+    c.misnamed ≡ (a.misnamed || s.faults.misnamed) → c.twice ≡ (a.twice || s.faults.twice) → c.unknown ≡ (a.unknown || s.faults.unknown) → c.unlike ≡ (a.unlike || s.faults.unlike) → c.misnumbered ≡ (a.misnumbered || s.faults.misnumbered) →
+    AllTell g (events_placed (take (i + 1) (words_of ws))) c
+events_tell_more g ws i d a c s l h t misnamed_with twice_with unknown_with unlike_with misnumbered_with =
+    subst (λ ps. AllTell g ps c) (sym (placed_more ws i d l))
+    (all_tell_more g (events_placed (take i (words_of ws))) EventName (get_or ws i d).now a c s h t misnamed_with twice_with unknown_with unlike_with misnumbered_with)
+  where
+    placed_more : (ws : List (Bor (List ℕ))) (i : ℕ) (d : Bor (List ℕ)) → i < length ws → events_placed (take (i + 1) (words_of ws)) ≡ events_placed (take i (words_of ws)) ++ (EventName, (get_or ws i d).now) ∷ []
+    placed_more [] i d l = absurd (omega arith)
+    placed_more (w ∷ ws) zero d l = refl
+    placed_more (w ∷ ws) (suc i) d l = ap (λ n. events_placed (take n (words_of (w ∷ ws)))) (let e : suc i + 1 ≡ suc (i + 1) = omega arith in e) ∙ ap (λ ps. (EventName, w.now) ∷ ps) (placed_more ws i d (omega arith))

@@ -1,18 +1,18 @@
 -- The kinds of operation lines as the forms of their words.
-use Rattle.std.specs.Prelude.{◌≡◌, ℕ, ◌+◌, ◌≤◌, Bool, false, cond, not, ◌&&◌, ◌||◌, List, [], ◌∷◌, ◌++◌, length, map, slice_index_or, unwrap_or, filter_map, is_some, Option, Some, None, Result, Ok, Err}
+use Rattle.std.specs.Prelude.{◌≡◌, ℕ, ◌≤◌, Bool, false, cond, not, ◌&&◌, ◌||◌, List, [], ◌∷◌, ◌++◌, length, map, unwrap_or, filter_map, is_some, Option, Some, None}
 use Rattle.std.specs.List.{list_any}
-use Rattle.std.proofs.Common.{inr}
 use Rattle.graph_terms.specs.declared.verb.Line.{Line}
 use Rattle.graph_terms.specs.declared.verb.Verb.{Verb}
+use Rattle.graph_terms.specs.declared.format.Format.{Format}
 use Rattle.graph_terms.specs.declared.why.Why.{Why}
 use Rattle.graph_terms.specs.Graph.{GraphValue}
 use Rattle.graph_words.specs.Words.{value_of}
-use Rattle.graph_words.specs.Draft.{form_of, form_draft, has_on, on_placed, line_number, Draft, Placed, number_in_place, number_in, words_in}
+use Rattle.graph_words.specs.Draft.{form_of, form_draft, on_events, on_placed, line_number, Draft, Placed, number_in_place, number_in, words_in}
 use Rattle.graph_words.specs.Draft as draft
 use Rattle.graph_terms.specs.declared.why.Why.TheVariants as why
-use Rattle.graph_terms.specs.Fits.{first_reason, is_used, repeats, line_fault}
+use Rattle.graph_terms.specs.Fits.{first_reason, is_used, repeats}
 use Rattle.std.specs.Str.{bytes_eq}
-use Rattle.graph_reader.specs.FirstFault.{misnamed, twice, unknown, unlike, misnumbered, draft_fault, column_word}
+use Rattle.graph_reader.specs.FirstFault.{misnamed, twice, unknown, unlike, misnumbered, column_word}
 use Rattle.graph_terms.specs.declared.table.Kind.{Kind}
 use Rattle.graph_terms.specs.declared.found.Found.{Found}
 use Rattle.graph_reader.specs.Lookups.{is_found_inst}
@@ -75,9 +75,13 @@ NamesThing p = Unit {0}
 abbrev pub column_words : List Placed → List (List ℕ)
 column_words ps = filter_map (λ (p : Placed). column_word p.0 p.1) ps
 
--- the words of a kind, each in its place, and the one behind `on`
-unfoldable pub form_placed : Kind → List (List ℕ) → List Placed
-form_placed kind ws = kind_placed kind ws ++ on_placed (form_of kind) ws
+-- the words of a kind, each in its place, and the events behind `on`
+unfoldable pub form_placed : Format → Kind → List (List ℕ) → List Placed
+form_placed format kind ws = kind_placed kind ws ++ on_placed format (form_of kind) ws
+
+-- whether one event or one column stands there twice
+abbrev pub form_repeats : Format → Kind → List (List ℕ) → Bool
+form_repeats format kind ws = repeats bytes_eq (on_events format (form_of kind) ws) || repeats bytes_eq (column_words (kind_placed kind ws))
 
 -- there are as many words as a kind has places
 abbrev pub HasPlaces : Kind → List (List ℕ) → Type 0
@@ -91,18 +95,18 @@ pub record AllTell (g : GraphValue) (ps : List Placed) (faults : Faults) : Type 
   pub unlike : faults.unlike ≡ list_any (λ (p : Placed). unlike g p.0 p.1) ps
   pub misnumbered : faults.misnumbered ≡ list_any (λ (p : Placed). misnumbered p.0 p.1) ps
 
--- the line behind `on`
-abbrev pub kind_on : GraphValue → Kind → List (List ℕ) → Option ℕ
-kind_on g kind ws = cond (has_on (form_of kind) ws) (Some (line_number g (slice_index_or ws (length (form_of kind).places + 1) []))) None
+-- the lines behind `on`
+abbrev pub kind_on : GraphValue → Kind → List (List ℕ) → List ℕ
+kind_on g kind ws = map (line_number g) (on_events g.format (form_of kind) ws)
 
 -- the first reason that refuses a word of a line of a kind, whose name is spelled as one
 unfoldable pub form_reason : GraphValue → Kind → List ℕ → List (List ℕ) → Option Why
 form_reason g kind name ws = first_reason (
-    (list_any (λ (p : Placed). misnamed g.format p.0 p.1) (form_placed kind ws), why.Name)
-    ∷ (is_used g name || (list_any (λ (p : Placed). twice g p.0 p.1) (form_placed kind ws) || repeats bytes_eq (column_words (kind_placed kind ws))), why.Twice)
-    ∷ (list_any (λ (p : Placed). unknown g p.0 p.1) (form_placed kind ws), why.Unknown)
-    ∷ (list_any (λ (p : Placed). unlike g p.0 p.1) (form_placed kind ws), why.Kind)
-    ∷ (list_any (λ (p : Placed). misnumbered p.0 p.1) (form_placed kind ws), why.Number)
+    (list_any (λ (p : Placed). misnamed g.format p.0 p.1) (form_placed g.format kind ws), why.Name)
+    ∷ (is_used g name || (list_any (λ (p : Placed). twice g p.0 p.1) (form_placed g.format kind ws) || form_repeats g.format kind ws), why.Twice)
+    ∷ (list_any (λ (p : Placed). unknown g p.0 p.1) (form_placed g.format kind ws), why.Unknown)
+    ∷ (list_any (λ (p : Placed). unlike g p.0 p.1) (form_placed g.format kind ws), why.Kind)
+    ∷ (list_any (λ (p : Placed). misnumbered p.0 p.1) (form_placed g.format kind ws), why.Number)
     ∷ [])
 
 -- the first reason that refuses a word of a line but for its spelling and what stands there twice
@@ -117,8 +121,3 @@ IsFormFault g kind name ws None = form_reason g kind name ws ≡ cond (is_used g
 -- the line that words of a kind spell
 abbrev pub kind_line : GraphValue → Kind → List ℕ → List (List ℕ) → Line
 kind_line g kind name ws = record { name = name; verb = kind_verb g kind ws; on = kind_on g kind ws }
-
--- what the words in their places and what they spell are read as
-abbrev pub IsReading : GraphValue → Draft → Result Line Why → Type 0
-IsReading g d (Ok l) = (draft_fault g d ≡ line_fault g l) × (d.item ≡ inr l)
-IsReading g d (Err w) = draft_fault g d ≡ Some w

@@ -1,5 +1,5 @@
 -- Merges of the lines that words name.
-use Rattle.std.specs.Prelude.{◌≡◌, ℕ, Bool, true, false, not, ◌||◌, List, [], ◌∷◌, map, Option, Some, None}
+use Rattle.std.specs.Prelude.{◌≡◌, ℕ, Bool, true, false, not, ◌||◌, List, [], ◌∷◌, map, Option, Some}
 use Rattle.std.specs.List.{list_any, list_all}
 use Rattle.std.specs.Str.{bytes_eq}
 use Rattle.graph_terms.specs.declared.verb.Line.{Line}
@@ -22,7 +22,7 @@ merge_verb false events = Merge events
 
 -- the line of a merge
 abbrev pub merge_line : GraphValue → Bool → List ℕ → List (List ℕ) → Line
-merge_line g ignores name es = record { name = name; verb = merge_verb ignores (map (line_number g) es); on = None }
+merge_line g ignores name es = record { name = name; verb = merge_verb ignores (map (line_number g) es); on = [] }
 
 -- whether all of the words name lines
 abbrev pub all_lines : GraphValue → List (List ℕ) → Bool

@@ -1,15 +1,17 @@
 //! Tests of one word, and of the verb of a line.
 
 ghost use Rattle.basics.specs.Words.{contents};
-ghost use Rattle.std.specs.Prelude.{◌≡◌, map, false, true, IfOk, IsTrue, MatchOption};
+ghost use Rattle.std.specs.Prelude.{◌≡◌, ◌&&◌, map, false, true, IfOk, IsTrue, MatchOption};
 ghost use Rattle.std.specs.List.{list_all};
+ghost use Rattle.std.specs.Str.{bytes_eq};
+ghost use Rattle.graph_terms.specs.Fits.{repeats};
 ghost use Rattle.graph_terms.specs.Name.{is_name_in};
 ghost use Rattle.graph_terms.specs.Graph.{is_user, is_phase, is_acquire};
 
 use graph_model::graph::Graph;
 use graph_terms::name::Name;
 use graph_terms::verb::Verb;
-use graph_words::names::names_of;
+use graph_words::names::{has_repeat, names_of};
 use index_spaces::NoMemory;
 use std::alloc::Global;
 
@@ -38,6 +40,16 @@ pub(crate) fn names_in(
         (λ v. (v.items ≡ contents words.now) × (list_all (is_name_in graph.now.format) (contents words.now) ≡ true))) }
 {
     names_of(alloc, graph.format(), words)
+}
+
+/// Whether each word is spelled as a name of the graph's format, and one stands there twice.
+pub(crate) fn names_repeat(alloc: Global, graph: &Graph, words: &[&[u8]]) -> Result<bool, NoMemory>
+    ensures { IfOk result (λ b. b ≡ (list_all (is_name_in graph.now.format) (contents words.now) && repeats bytes_eq (contents words.now))) }
+{
+    match names_in(alloc, graph, words)? {
+        Some(names) => has_repeat(alloc, &names),
+        None => Ok(false),
+    }
 }
 
 pub(crate) fn is_user(verb: &Verb) -> bool

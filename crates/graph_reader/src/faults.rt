@@ -3,7 +3,7 @@
 ghost use Rattle.std.specs.Prelude.{◌≡◌, ◌||◌};
 
 /// What is to be said of one of the words at least.
-#[derive(Clone, Copy)]
+#[derive(Clone, Copy, Default)]
 pub struct Faults {
     /// It is not spelled as its place asks, where it asks for names.
     pub misnamed: bool,

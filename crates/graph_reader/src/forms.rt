@@ -1,25 +1,30 @@
 //! Operation lines but for merges.
 
 ghost use Rattle.basics.specs.Words.{contents};
-ghost use Rattle.std.specs.Prelude.{◌≡◌, ◌<◌, ◌≤◌, ◌&&◌, drop, map, length, List, ℕ, [], ◌+◌, slice_index_or};
+ghost use Rattle.std.specs.Prelude.{◌≡◌, ◌<◌, ◌≤◌, ◌&&◌, ◌||◌, false, drop, map, length, List, ℕ, [], ◌+◌, slice_index_or, IfOk};
 ghost use Rattle.std.specs.List.{list_any};
 ghost use Rattle.std.specs.Str.{bytes_eq};
 ghost use Rattle.graph_terms.specs.Fits.{repeats};
 ghost use Rattle.graph_terms.specs.Table.{is_column, parts_of};
-ghost use Rattle.graph_words.specs.Draft.{form_of, number_in, words_in};
-ghost use Rattle.graph_reader.specs.Kinds.{kind_placed, form_placed, AllTell, column_words, kind_draft, kind_on, later_reason, HasPlaces, IsFormFault, IsReading};
+ghost use Rattle.graph_words.specs.Draft.{number_in, words_in};
+ghost use Rattle.graph_reader.specs.Kinds.{kind_placed, form_placed, AllTell, column_words, kind_draft, kind_on, form_repeats, later_reason, HasPlaces, IsFormFault};
+ghost use Rattle.graph_reader.specs.Reading.{IsLineRead};
 
 use crate::checks::name_in;
+use crate::events::{events_repeat, see_events};
 use crate::faults::Faults;
+use crate::item::ItemError;
 use crate::lookup::stands_for;
 use crate::parts::read_parts;
-use crate::seen::see_event;
 use graph_model::graph::Graph;
+use graph_terms::lists::EventList;
 use graph_terms::name::Name;
 use graph_terms::table::{Kind, Parts, Place};
 use graph_terms::verb::{Line, Verb};
 use graph_terms::why::Why;
-use graph_words::words::{behind, has_on, place_count, word};
+use graph_words::words::{behind, on_events, word};
+use index_spaces::NoMemory;
+use std::alloc::Global;
 
 fn is_column(place: Place) -> bool
     ensures { result ≡ is_column place }
@@ -68,45 +73,47 @@ fn columns_repeat(places: &[Place], words: &[&[u8]]) -> bool
     false
 }
 
-/// The word behind `on`.
-fn event_behind<'a>(kind: Kind, words: &[&'a [u8]]) -> &'a [u8]
-    ensures { result.now ≡ slice_index_or (contents words.now) (length (form_of kind).places + 1) [] }
-{
-    word(words, place_count(kind) + 1)
-}
-
 /// What is to be said of the words of a line of a kind.
-#[derive(Clone, Copy)]
+#[derive(Drop)]
 struct SeenForm {
     /// What they stand for in their places.
     parts: Parts,
-    /// The line behind `on`.
-    on: Option<u32>,
+    /// The lines behind `on`.
+    on: EventList,
     /// What refuses them.
     faults: Faults,
 }
 
 /// What is to be said of the words of a line of a kind, behind the fixed ones.
-fn see_form(graph: &Graph, kind: Kind, words: &[&[u8]]) -> SeenForm
+fn see_form(alloc: Global, graph: &Graph, kind: Kind, words: &[&[u8]]) -> Result<SeenForm, NoMemory>
     requires { HasPlaces kind (contents words.now) }
-    ensures parts { parts_of kind result.parts ≡ map (number_in graph.now) (kind_placed kind (contents words.now)) }
-    ensures on { result.on ≡ kind_on graph.now kind (contents words.now) }
-    ensures faults { AllTell graph.now (form_placed kind (contents words.now)) result.faults }
+    ensures parts { IfOk result (λ seen. parts_of kind seen.parts ≡ map (number_in graph.now) (kind_placed kind (contents words.now))) }
+    ensures on { IfOk result (λ seen. seen.on ≡ kind_on graph.now kind (contents words.now)) }
+    ensures faults { IfOk result (λ seen. AllTell graph.now (form_placed graph.now.format kind (contents words.now)) seen.faults) }
 {
     let (parts, faults) = read_parts(graph, kind.places(), words);
-    if !has_on(kind, words) {
-        return SeenForm {
-            parts,
-            on: None,
-            faults,
-        };
+    let (on, more) = see_events(alloc, graph, on_events(graph.format(), kind, words))?;
+    let faults = faults.with(more);
+    Ok(SeenForm { parts, on, faults })
+}
+
+/// Whether a word names what may be named no more, or one event or one column stands there twice.
+fn is_twice(
+    alloc: Global,
+    graph: &Graph,
+    kind: Kind,
+    words: &[&[u8]],
+    faults: Faults,
+) -> Result<bool, NoMemory>
+    requires there { HasPlaces kind (contents words.now) }
+    requires faults { AllTell graph.now (form_placed graph.now.format kind (contents words.now)) faults }
+    requires named { faults.misnamed ≡ false }
+    ensures { IfOk result (λ b. b ≡ (faults.twice || form_repeats graph.now.format kind (contents words.now))) }
+{
+    if faults.twice || columns_repeat(kind.places(), words) {
+        return Ok(true);
     }
-    let event = see_event(graph, event_behind(kind, words));
-    SeenForm {
-        parts,
-        on: Some(event.number),
-        faults: faults.with(event.faults),
-    }
+    events_repeat(alloc, graph, on_events(graph.format(), kind, words))
 }
 
 /// The first reason that refuses a word of a line but for its spelling and what stands there twice.
@@ -127,49 +134,57 @@ fn later_fault(faults: Faults) -> Option<Why>
 
 /// The first reason that refuses a word of a line. Where none does, the name may be in use: the graph says so itself.
 fn form_fault(
+    alloc: Global,
     graph: &Graph,
     kind: Kind,
     name: &Name,
     words: &[&[u8]],
     faults: Faults,
-) -> Option<Why>
+) -> Result<Option<Why>, NoMemory>
     requires there { HasPlaces kind (contents words.now) }
-    requires faults { AllTell graph.now (form_placed kind (contents words.now)) faults }
-    ensures { IsFormFault graph.now kind name.now (contents words.now) result }
+    requires faults { AllTell graph.now (form_placed graph.now.format kind (contents words.now)) faults }
+    ensures { IfOk result (λ why. IsFormFault graph.now kind name.now (contents words.now) why) }
 {
     if faults.misnamed {
-        return Some(Why::Name);
+        return Ok(Some(Why::Name));
     }
-    if faults.twice || columns_repeat(kind.places(), words) {
-        return Some(Why::Twice);
+    if is_twice(alloc, graph, kind, words, faults)? {
+        return Ok(Some(Why::Twice));
     }
-    let later = later_fault(faults)?;
+    let Some(later) = later_fault(faults) else {
+        return Ok(None);
+    };
     if stands_for(graph, name).is_some() {
-        return Some(Why::Twice);
+        return Ok(Some(Why::Twice));
     }
-    Some(later)
+    Ok(Some(later))
 }
 
 /// The operation line of a kind with this name and these words, of which the graph itself may still say a reason.
 pub(crate) fn read_form(
+    alloc: Global,
     graph: &Graph,
     kind: Kind,
     name: &[u8],
     words: &[&[u8]],
-) -> Result<Line, Why>
+) -> Result<Line, ItemError>
     requires { HasPlaces kind (contents words.now) }
-    ensures { IsReading graph.now (kind_draft graph.now kind name.now (contents words.now)) result }
+    ensures { IsLineRead graph.now (kind_draft graph.now kind name.now (contents words.now)) result }
 {
     let Some(name) = name_in(graph, name) else {
-        return Err(Why::Name);
+        return Err(ItemError::Refused(Why::Name));
     };
-    let seen = see_form(graph, kind, words);
-    if let Some(why) = form_fault(graph, kind, &name, words, seen.faults) {
-        return Err(why);
+    let Ok(SeenForm { parts, on, faults }) = see_form(alloc, graph, kind, words) else {
+        return Err(ItemError::NoMemory);
+    };
+    match form_fault(alloc, graph, kind, &name, words, faults) {
+        Ok(None) => {}
+        Ok(Some(why)) => return Err(ItemError::Refused(why)),
+        Err(_) => return Err(ItemError::NoMemory),
     }
     Ok(Line {
         name,
-        verb: Verb::of(kind, &seen.parts),
-        on: seen.on,
+        verb: Verb::of(kind, &parts),
+        on,
     })
 }

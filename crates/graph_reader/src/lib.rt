@@ -3,6 +3,7 @@
 
 mod checks;
 mod decls;
+mod events;
 pub mod faults;
 mod forms;
 mod item;

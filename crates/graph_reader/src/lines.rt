@@ -123,14 +123,17 @@ fn merge_line(
 }
 
 /// The line of a kind that words spell.
-fn kind_line(graph: &Graph, kind: Kind, name: &[u8], words: &[&[u8]]) -> Result<Line, ItemError>
+fn kind_line(
+    alloc: Global,
+    graph: &Graph,
+    kind: Kind,
+    name: &[u8],
+    words: &[&[u8]],
+) -> Result<Line, ItemError>
     requires { is_of_form graph.now.format (contents words.now) (form_of kind) ≡ true }
     ensures { IsLineRead graph.now (kind_draft graph.now kind name.now (drop (length (form_of kind).words) (contents words.now))) result }
 {
-    match read_form(graph, kind, name, behind(words, kind.words().len())) {
-        Ok(line) => Ok(line),
-        Err(why) => Err(ItemError::Refused(why)),
-    }
+    read_form(alloc, graph, kind, name, behind(words, kind.words().len()))
 }
 
 /// The operation line with this name that the words behind the sign spell.
@@ -145,7 +148,7 @@ fn read_line(alloc: Global, graph: &Graph, name: &[u8], words: &[&[u8]]) -> Resu
         return merge_line(alloc, graph, true, name, words);
     }
     match kind_of(graph.format(), words) {
-        Some(kind) => kind_line(graph, kind, name, words),
+        Some(kind) => kind_line(alloc, graph, kind, name, words),
         None => Err(ItemError::Refused(Why::Syntax)),
     }
 }

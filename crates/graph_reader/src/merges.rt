@@ -1,7 +1,7 @@
 //! Lines of merges.
 
 ghost use Rattle.basics.specs.Words.{contents};
-ghost use Rattle.std.specs.Prelude.{◌≡◌, map, not, false, true, IfOk, MatchOption, Some, None};
+ghost use Rattle.std.specs.Prelude.{◌≡◌, map, not, false, true, IfOk, MatchOption, Some, []};
 ghost use Rattle.std.specs.List.{list_any};
 ghost use Rattle.std.specs.Str.{bytes_eq};
 ghost use Rattle.graph_terms.specs.Fits.{repeats, is_used};
@@ -10,12 +10,12 @@ ghost use Rattle.graph_words.specs.Draft.{line_number, merge_with};
 ghost use Rattle.graph_reader.specs.Merges.{merge_verb, merge_reason, all_lines, IsMergeError};
 ghost use Rattle.graph_reader.specs.Reading.{IsLineRead};
 
-use crate::checks::{name_in, names_in};
+use crate::checks::{name_in, names_in, names_repeat};
 use crate::item::ItemError;
 use crate::lookup::{line, look_up, stands_for};
 use graph_model::graph::Graph;
 use graph_terms::limits::MAX_EVENTS;
-use graph_terms::lists::LineList;
+use graph_terms::lists::{EventList, LineList};
 use graph_terms::name::Name;
 use graph_terms::verb::{Line, Verb};
 use graph_terms::why::Why;
@@ -79,7 +79,7 @@ fn merge_error(alloc: Global, graph: &Graph, name: &Name, words: &[&[u8]]) -> It
     }
 }
 
-/// Whether there are more words than a merge may have, and one of them stands there twice. A graph compares fewer pair by
+/// Whether there are more words than a merge has in formats 1 and 2, and one of them stands there twice. A graph compares fewer pair by
 /// pair.
 fn many_repeat(alloc: Global, graph: &Graph, words: &[&[u8]]) -> Result<bool, NoMemory>
     ensures { IfOk result (λ b. b ≡ true → repeats bytes_eq (contents words.now) ≡ true) }
@@ -87,15 +87,12 @@ fn many_repeat(alloc: Global, graph: &Graph, words: &[&[u8]]) -> Result<bool, No
     if words.len() <= MAX_EVENTS as usize {
         return Ok(false);
     }
-    match names_in(alloc, graph, words)? {
-        Some(names) => has_repeat(alloc, &names),
-        None => Ok(false),
-    }
+    names_repeat(alloc, graph, words)
 }
 
 /// The line of a merge of these lines.
-fn merged(ignores: bool, name: Name, numbers: Vec<u32>) -> Result<Line, NoMemory>
-    ensures { IfOk result (λ l. l ≡ record { name = name; verb = merge_verb ignores numbers.items; on = None }) }
+fn merged(alloc: Global, ignores: bool, name: Name, numbers: Vec<u32>) -> Result<Line, NoMemory>
+    ensures { IfOk result (λ l. l ≡ record { name = name; verb = merge_verb ignores numbers.items; on = [] }) }
 {
     // More numbers than a list of lines holds.
     if numbers.len() > 4294967295 {
@@ -110,7 +107,7 @@ fn merged(ignores: bool, name: Name, numbers: Vec<u32>) -> Result<Line, NoMemory
     Ok(Line {
         name,
         verb,
-        on: None,
+        on: EventList::new(alloc),
     })
 }
 
@@ -134,7 +131,7 @@ fn read_lines(
         Ok(true) => return Err(ItemError::Refused(Why::Twice)),
         Err(_) => return Err(ItemError::NoMemory),
     }
-    match merged(ignores, name, numbers) {
+    match merged(alloc, ignores, name, numbers) {
         Ok(line) => Ok(line),
         Err(_) => Err(ItemError::NoMemory),
     }

@@ -23,13 +23,7 @@ pub(crate) fn read_parts(graph: &Graph, places: &[Place], words: &[&[u8]]) -> (P
         numbers: [0; MOST_PLACES],
         values: [0; MOST_PLACES],
     };
-    let mut faults = Faults {
-        misnamed: false,
-        twice: false,
-        unknown: false,
-        unlike: false,
-        misnumbered: false,
-    };
+    let mut faults = Faults::default();
     for i in 0..places.len() {
         let seen = see(graph, places[i], word(words, i));
         parts.numbers[i] = seen.number;

@@ -121,10 +121,9 @@ fn column_seen(misnamed: bool, found: Option<Found>, column: Option<u32>) -> See
     Seen {
         faults: Faults {
             misnamed,
-            twice: false,
             unknown: is_unknown_column(found, column),
             unlike: !is_inst(found),
-            misnumbered: false,
+            ..Faults::default()
         },
         number: column.unwrap_or(0),
         value: 0,
@@ -150,11 +149,8 @@ fn misnumbered(misnumbered: bool) -> Faults
     ensures { result ≡ record { misnamed = false; twice = false; unknown = false; unlike = false; misnumbered = misnumbered } }
 {
     Faults {
-        misnamed: false,
-        twice: false,
-        unknown: false,
-        unlike: false,
         misnumbered,
+        ..Faults::default()
     }
 }
 

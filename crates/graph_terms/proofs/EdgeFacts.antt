@@ -1,6 +1,6 @@
 -- Which edges a graph that fits has: none enters a user event that no line ends, and each arrival gives one to its phase.
 use Rattle.std.proofs.Common.{◌≡◌, ℕ, zero, suc, ◌+◌, Bool, true, false, ◌&&◌, ◌||◌, inl, inr, List, [], ◌∷◌, ◌++◌, length, refl, sym, ◌∙◌, ap, subst, append_assoc, length-append, arith, append-nil}
-use Rattle.std.specs.Prelude.{Contains, not, Some, None, is_some, slice_get, option_map}
+use Rattle.std.specs.Prelude.{Contains, not, Some, None, nat_lt, slice_get, option_map}
 use Rattle.std.specs.List.{list_any}
 use Rattle.std.proofs.lemmas.Bool.{true≢false, and_from, or_parts, not-false}
 use Rattle.std.proofs.lemmas.Option.{none-some, same_Some}
@@ -11,12 +11,12 @@ use Rattle.graph_terms.specs.declared.verb.Line.{Line}
 use Rattle.graph_terms.specs.declared.why.Why.TheVariants as why
 use Rattle.graph_terms.specs.declared.verb.Verb.TheVariants.{User, Phase, Arrive}
 use Rattle.graph_terms.specs.Graph.{GraphValue, line_passes, is_user, is_phase, ends_user}
-use Rattle.graph_terms.specs.Edges.{edge, edges_from_some, verb_edges, line_edges, edges_after, edges}
+use Rattle.graph_terms.specs.Edges.{edge, on_edges, verb_edges, line_edges, edges_after, edges}
 use Rattle.basics.proofs.ListFacts.{got_behind, got_in, contains_none, contains_here, passes_some}
-use Rattle.graph_terms.specs.Fits.{line_fault, line_tests, takes_no_on, format_lacks, verb_unlike, LinesFit}
+use Rattle.graph_terms.specs.Fits.{line_fault, line_tests, takes_no_on, on_unlike, format_lacks, verb_unlike, LinesFit}
 use Rattle.graph_terms.proofs.ArriveLaws.{arrive_unlike}
 use Rattle.graph_terms.proofs.GraphFacts.{none_first}
-use Rattle.graph_terms.proofs.VerbFacts.{passes_verb, verb_passes, verb_line, user_is, phase_is, from_some_to, from_some_has, verb_edge_to}
+use Rattle.graph_terms.proofs.VerbFacts.{passes_verb, verb_passes, verb_line, user_is, phase_is, on_edge_to, on_edge_has, verb_edge_to}
 use Rattle.graph_terms.specs.Laws.{EdgesOfEachLine, EdgeOfArrival, FittingKind, EndedUserEvent, EdgesOfOneMoreLine}
 
 -- the edges of each line are among those of the graph
@@ -35,7 +35,7 @@ line_edges_in before (m ∷ ls) (suc k) l h =
 
 -- an arrival gives an edge to its phase
 arrival_listed : (b : List Line) (l : Line) (p v w : ℕ) → l.verb ≡ Arrive p v w → Contains (line_edges b l) (edge (length b) p Passes)
-arrival_listed b l p v w e = Contains-append_right (edges_from_some Passes l.on (length b)) (verb_edges b (length b) l.verb) (edge (length b) p Passes)
+arrival_listed b l p v w e = Contains-append_right (on_edges l.on (length b)) (verb_edges b (length b) l.verb) (edge (length b) p Passes)
     (subst (λ x. Contains (verb_edges b (length b) x) (edge (length b) p Passes)) (sym e) (contains_here (edge (length b) p Passes) []))
 
 pub arrival_edge : EdgeOfArrival
@@ -48,9 +48,9 @@ arrival_edge g i p v w h =
 -- a line that fits: its kind is right
 pub kind_fits : FittingKind
 kind_fits g l h =
-    let others : Bool = (takes_no_on l.verb && is_some l.on) || format_lacks g.format l.verb in
+    let others : Bool = on_unlike g.format l.verb l.on || format_lacks g.format l.verb in
     let first = or_parts (verb_unlike g l.verb) others (none_first (line_tests g l) h (verb_unlike g l.verb || others, why.Kind) (2, omega arith, refl)) in
-    let rest = or_parts (takes_no_on l.verb && is_some l.on) (format_lacks g.format l.verb) first.1 in
+    let rest = or_parts (on_unlike g.format l.verb l.on) (format_lacks g.format l.verb) first.1 in
     (first.0, rest.0, rest.1)
 
 -- an edge that enters a user event is of a line that ends it
@@ -76,11 +76,11 @@ module _ (g : GraphValue) where
       (e : Edge) → Contains (line_edges b l) e → line_passes is_user g e.to ≡ true → list_any (λ (x : Line). ends_user e.to x.verb) g.lines ≡ true
   own_edge_enters b l ls parts fits e c user =
       let kind = kind_fits (record { format = g.format; decls = g.decls; lines = b }) l fits in
-      elim (Contains-append_cases (edges_from_some Passes l.on (length b)) (verb_edges b (length b) l.verb) e c) [
+      elim (Contains-append_cases (on_edges l.on (length b)) (verb_edges b (length b) l.verb) e c) [
         | inl on ↦ (
-            let is : l.verb ≡ User = user_is l.verb (user_here b l ls parts (subst (λ n. line_passes is_user g n ≡ true) (from_some_to Passes l.on (length b) e on) user)) in
-            let some = from_some_has Passes l.on (length b) e on in
-            absurd (true≢false (sym (and_from (takes_no_on l.verb) (is_some l.on) (ap takes_no_on is) (ap is_some some.1)) ∙ kind.1)))
+            let is : l.verb ≡ User = user_is l.verb (user_here b l ls parts (subst (λ n. line_passes is_user g n ≡ true) (on_edge_to l.on (length b) e on) user)) in
+            let taken = or_parts (takes_no_on l.verb && nat_lt 0 (length l.on)) _ kind.1 in
+            absurd (true≢false (sym (and_from (takes_no_on l.verb) (nat_lt 0 (length l.on)) (ap takes_no_on is) (on_edge_has l.on (length b) e on)) ∙ taken.0)))
         | inr own ↦ elim (verb_edge_to b l.verb e own) [
           | inl self ↦ absurd (true≢false (sym (user_here b l ls parts (subst (λ n. line_passes is_user g n ≡ true) self.0 user)) ∙ self.1))
           | inr (inl ends) ↦ ended_listed b l ls parts e.to ends

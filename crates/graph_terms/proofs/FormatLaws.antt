@@ -1,16 +1,17 @@
 -- What the formats have of each other: verbs and names of one are those of each later one.
-use Rattle.std.proofs.Common.{◌≡◌, ℕ, true, false, not, ◌&&◌, ◌||◌, ◌≤◌, List, [], ◌∷◌, length, inl, inr, refl, arith}
-use Rattle.std.specs.Prelude.{nat_le, ◌==◌}
+use Rattle.std.proofs.Common.{◌≡◌, ℕ, Bool, true, false, not, ◌&&◌, ◌||◌, ◌≤◌, List, [], ◌∷◌, length, inl, inr, refl, arith}
+use Rattle.std.specs.Prelude.{nat_le, nat_lt, ◌==◌}
 use Rattle.std.specs.Char.{is_ascii_lowercase, is_ascii_uppercase, is_ascii_digit}
 use Rattle.std.specs.List.{list_all}
-use Rattle.std.proofs.lemmas.Bool.{false≢true, and_parts, and_from, or_cases, or_left, or_right, leb-true, le-leb}
+use Rattle.std.proofs.lemmas.Bool.{false≢true, and_parts, and_from, or_cases, or_left, or_right, or_parts, or_from, leb-true, le-leb, ltb-false, le-ltb}
 use Rattle.graph_terms.specs.declared.decl.Decl.TheVariants.{Space, Inst, Lock, Barrier}
 use Rattle.graph_terms.specs.declared.format.Format.{Format}
 use Rattle.graph_terms.specs.declared.format.Format.TheVariants.{One, Two, Three}
 use Rattle.graph_terms.specs.declared.verb.Verb.TheVariants.{Acquire}
 use Rattle.graph_terms.specs.Format.{has_since}
+use Rattle.graph_terms.specs.Fits.{takes_no_on, most_events, merged_events}
 use Rattle.graph_terms.specs.Name.{is_name_byte, is_first_byte, is_later_byte, is_name_in}
-use Rattle.graph_terms.specs.Laws.{SinceByRank, FormatThreeIsLast, UpgradedFormatIsLater, LaterFormatsHaveVerbs, LaterFormatsHaveNames, NamesAreLongNames, LaterFormatsHaveDeclarations}
+use Rattle.graph_terms.specs.Laws.{SinceByRank, FormatThreeIsLast, UpgradedFormatIsLater, LaterFormatsHaveVerbs, LaterFormatsTakeEvents, LaterFormatsNameMore, LaterFormatsHaveNames, NamesAreLongNames, LaterFormatsHaveDeclarations}
 
 pub since_by_rank : SinceByRank
 since_by_rank One One = refl
@@ -44,6 +45,38 @@ pub later_verbs : LaterFormatsHaveVerbs
 later_verbs f h s (Acquire lock true) e = shared_too f h s e
 later_verbs f h s (Acquire lock false) e = refl
 later_verbs f h s v e = refl
+
+several_too : (f h : Format) → has_since f h ≡ true → (on : List ℕ) → (not (has_since Three f) && nat_lt 1 (length on)) ≡ false → (not (has_since Three h) && nat_lt 1 (length on)) ≡ false
+several_too f Three s on e = refl
+several_too One One s on e = e
+several_too Two One s on e = absurd (false≢true s)
+several_too Three One s on e = absurd (false≢true s)
+several_too One Two s on e = e
+several_too Two Two s on e = e
+several_too Three Two s on e = absurd (false≢true s)
+
+pub later_events : LaterFormatsTakeEvents
+later_events f h s v on e =
+    let none : Bool = takes_no_on v && nat_lt 0 (length on) in
+    let p = or_parts none (not (has_since Three f) && nat_lt 1 (length on)) e in
+    or_from none (not (has_since Three h) && nat_lt 1 (length on)) p.0 (several_too f h s on p.1)
+
+-- a number of events that is not above the most of a format
+most_too : (f h : Format) → has_since f h ≡ true → (n : ℕ) → nat_lt (most_events f) n ≡ false → nat_lt (most_events h) n ≡ false
+most_too One One s n e = e
+most_too One Two s n e = e
+most_too One Three s n e = (let few : n ≤ 64 = ltb-false 64 n e in let more : n ≤ 4096 = omega (arith, few) in le-ltb 4096 n more)
+most_too Two One s n e = absurd (false≢true s)
+most_too Two Two s n e = e
+most_too Two Three s n e = (let few : n ≤ 64 = ltb-false 64 n e in let more : n ≤ 4096 = omega (arith, few) in le-ltb 4096 n more)
+most_too Three One s n e = absurd (false≢true s)
+most_too Three Two s n e = absurd (false≢true s)
+most_too Three Three s n e = e
+
+pub later_many : LaterFormatsNameMore
+later_many f h s v on e =
+    let p = or_parts (nat_lt (most_events f) (length (merged_events v))) (nat_lt (most_events f) (length on)) e in
+    or_from (nat_lt (most_events h) (length (merged_events v))) (nat_lt (most_events h) (length on)) (most_too f h s (length (merged_events v)) p.0) (most_too f h s (length on) p.1)
 
 -- the bytes of a name
 first_too : (c : ℕ) → is_ascii_lowercase c ≡ true → is_first_byte c ≡ true

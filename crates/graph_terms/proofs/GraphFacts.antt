@@ -19,8 +19,8 @@ use Rattle.graph_terms.specs.declared.why.Why.TheVariants as why
 use Rattle.graph_terms.specs.declared.verb.Verb.{Verb}
 use Rattle.graph_terms.specs.declared.verb.Verb.TheVariants.{Trigger, Cancel, Merge, MergeIgnore, Phase, Arrive}
 use Rattle.graph_terms.specs.Graph.{GraphValue, is_phase_of, space_of, named_spaces, space_at, barriers, columns_of, columns}
-use Rattle.graph_terms.specs.Edges.{edge, last_place, edges_from_some, verb_edges, line_edges, edges_after, EndsUpTo}
-use Rattle.graph_terms.specs.Fits.{first_reason, line_tests, line_fault, line_unknown, named_lines, on_lines, verb_unknown, LinesFit, IsGraph, decl_unknown, decl_tests, decl_fault}
+use Rattle.graph_terms.specs.Edges.{edge, last_place, edges_from_some, on_edges, verb_edges, line_edges, edges_after, EndsUpTo}
+use Rattle.graph_terms.specs.Fits.{first_reason, line_tests, line_fault, line_unknown, named_lines, verb_unknown, LinesFit, IsGraph, decl_unknown, decl_tests, decl_fault}
 use Rattle.graph_terms.proofs.ArriveLaws.{arrive_names}
 use Rattle.basics.proofs.ListFacts.{contains_none, contains_cases, contains_here, passes_some, map_contains}
 use Rattle.graph_terms.specs.declared.decl.ColumnInfo.{ColumnInfo}
@@ -47,7 +47,7 @@ none_of t xs h x c = false_from_ne_true (t x) (λ e. true≢false (sym (passes_s
 pub named_below : NamedLinesAreAbove
 named_below g l h k c =
     let parts = or_parts _ _ (fits_known g l h) in
-    leb-false (length g.lines) k (none_of (λ i. nat_le (length g.lines) i) (named_lines l.verb ++ on_lines l.on) parts.0 k c)
+    leb-false (length g.lines) k (none_of (λ i. nat_le (length g.lines) i) (named_lines l.verb ++ l.on) parts.0 k c)
 
 -- the last place of a line that passes is below the number of lines
 last_place_below : (test : Verb → Bool) (n : ℕ) (ls : List Line) (found : Option ℕ) (k : ℕ) → last_place test n ls found ≡ Some k → (found ≡ Some k) ⊎ (k < n + length ls)
@@ -83,15 +83,11 @@ verb_ends before v h x c = absurd (contains_none x c)
 
 pub line_ends : EdgesReachNoFurther
 line_ends fm decls before l h x c =
-    let known : (k : ℕ) → Contains (named_lines l.verb ++ on_lines l.on) k → k ≤ length before = λ k m. (let b : k < length before = named_below (record { format = fm; decls = decls; lines = before }) l h k m in omega arith) in
-    elim (Contains-append_cases (edges_from_some Passes l.on (length before)) (verb_edges before (length before) l.verb) x c) [
-      | inl a ↦ some_edge (length before) Passes l.on x (λ k e. known k (Contains-append_right (named_lines l.verb) (on_lines l.on) k (on_listed l.on k e))) a
-      | inr b ↦ verb_ends before l.verb (λ k m. known k (Contains-append_left (named_lines l.verb) (on_lines l.on) k m)) x b
+    let known : (k : ℕ) → Contains (named_lines l.verb ++ l.on) k → k ≤ length before = λ k m. (let b : k < length before = named_below (record { format = fm; decls = decls; lines = before }) l h k m in omega arith) in
+    elim (Contains-append_cases (on_edges l.on (length before)) (verb_edges before (length before) l.verb) x c) [
+      | inl a ↦ map_edges (length before) Passes l.on x (λ k m. known k (Contains-append_right (named_lines l.verb) l.on k m)) a
+      | inr b ↦ verb_ends before l.verb (λ k m. known k (Contains-append_left (named_lines l.verb) l.on k m)) x b
     ]
-  where
-    on_listed : (o : Option ℕ) (k : ℕ) → o ≡ Some k → Contains (on_lines o) k
-    on_listed None k e = absurd (none-some k e)
-    on_listed (Some j) k e = subst (λ z. Contains (j ∷ []) z) (same_Some j k e) (contains_here j [])
 
 after_ends : (fm : Format) (decls : List Decl) (before ls : List Line) → LinesFit fm decls before ls → (x : Edge) → Contains (edges_after before ls) x → (x.from < length before + length ls) × (x.to < length before + length ls)
 after_ends fm decls before [] f x c = absurd (contains_none x c)

@@ -1,6 +1,6 @@
 -- What holds of the acquires and releases of a graph whose items fit: an acquire's reservation is declared, a release names an acquire, and an acquire has one release.
-use Rattle.std.proofs.Common.{◌≡◌, ℕ, zero, suc, ◌+◌, ◌<◌, Bool, true, false, not, ◌&&◌, ◌||◌, inl, inr, List, [], ◌∷◌, ◌++◌, length, map, refl, sym, ◌∙◌, ap, subst, append_assoc, length-append, arith}
-use Rattle.std.specs.Prelude.{nat_eq, Option, Some, None, is_some, slice_get, option_map}
+use Rattle.std.proofs.Common.{◌≡◌, ℕ, zero, suc, ◌+◌, ◌<◌, Bool, true, false, not, ◌||◌, inl, inr, List, [], ◌∷◌, ◌++◌, length, map, refl, sym, ◌∙◌, ap, subst, append_assoc, length-append, arith}
+use Rattle.std.specs.Prelude.{nat_eq, Option, Some, None, slice_get, option_map}
 use Rattle.std.specs.Option.{option_map_or}
 use Rattle.std.specs.List.{list_any}
 use Rattle.std.proofs.lemmas.Bool.{true≢false, or_parts, or_left, or_right, not-false, cases_order, leb-false}
@@ -14,7 +14,7 @@ use Rattle.graph_terms.specs.Graph.{GraphValue, verb_at, line_passes, is_acquire
 use Rattle.graph_terms.specs.Reservations.{Releases}
 use Rattle.graph_terms.specs.declared.verb.Access.{Access}
 use Rattle.graph_terms.specs.Access.{verb_accesses}
-use Rattle.graph_terms.specs.Fits.{is_used, repeats, line_tests, line_fault, verb_repeats, verb_unlike, takes_no_on, format_lacks, LinesFit, IsGraph}
+use Rattle.graph_terms.specs.Fits.{is_used, repeats, line_tests, line_fault, verb_repeats, verb_unlike, on_unlike, format_lacks, LinesFit, IsGraph}
 use Rattle.graph_terms.proofs.AcquireLaws.{acquire_unknown}
 use Rattle.graph_terms.proofs.GraphFacts.{none_first, verb_known}
 use Rattle.graph_terms.proofs.VerbFacts.{verb_line, acquire_is, release_is, is_acquire_from}
@@ -90,7 +90,7 @@ pub release_names : ReleaseNamesAcquire
 release_names g f r q h =
     let c = release_cut g f r q h in
     let g' : GraphValue = record { format = g.format; decls = g.decls; lines = c.0 } in
-    let others : Bool = (takes_no_on c.1.verb && is_some c.1.on) || format_lacks g.format c.1.verb in
+    let others : Bool = on_unlike g.format c.1.verb c.1.on || format_lacks g.format c.1.verb in
     let kind = or_parts (verb_unlike g' c.1.verb) others (none_first (line_tests g' c.1) c.3.fits (verb_unlike g' c.1.verb || others, why.Kind) (2, omega arith, refl)) in
     let unlike : not (line_passes is_acquire (record { format = g.format; decls = g.decls; lines = c.0 }) q) ≡ false = ap (verb_unlike (record { format = g.format; decls = g.decls; lines = c.0 })) (sym c.5) ∙ kind.0 in
     let before : at_passes is_acquire c.0 q ≡ true = not-false (line_passes is_acquire (record { format = g.format; decls = g.decls; lines = c.0 }) q) unlike in
@@ -100,9 +100,9 @@ release_names g f r q h =
 
 repeats_not : (g : GraphValue) (l : Line) → line_fault g l ≡ None → verb_repeats g l.verb ≡ false
 repeats_not g l h =
-    let columns_repeat : Bool = repeats nat_eq (map (λ (a : Access). a.column) (verb_accesses l.verb)) in
-    let first = or_parts (is_used g l.name) (verb_repeats g l.verb || columns_repeat) (none_first (line_tests g l) h (is_used g l.name || (verb_repeats g l.verb || columns_repeat), why.Twice) (0, omega arith, refl)) in
-    (or_parts (verb_repeats g l.verb) columns_repeat first.1).0
+    let others_repeat : Bool = repeats nat_eq (map (λ (a : Access). a.column) (verb_accesses l.verb)) || repeats nat_eq l.on in
+    let first = or_parts (is_used g l.name) (verb_repeats g l.verb || others_repeat) (none_first (line_tests g l) h (is_used g l.name || (verb_repeats g l.verb || others_repeat), why.Twice) (0, omega arith, refl)) in
+    (or_parts (verb_repeats g l.verb) others_repeat first.1).0
 
 no_earlier : (g : GraphValue) → IsGraph g → (r s q : ℕ) → Releases g r q → Releases g s q → s < r → ⊥
 no_earlier g f r s q h k lower =

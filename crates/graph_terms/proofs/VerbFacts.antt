@@ -1,8 +1,8 @@
 -- What a line is that passes a test of verbs, and where the edges lead that it gives.
-use Rattle.std.proofs.Common.{◌≡◌, ℕ, Bool, true, false, ◌&&◌, List, [], ◌∷◌, length, refl, sym, ◌∙◌, ap, ◌⊎◌, inl, inr}
-use Rattle.std.specs.Prelude.{Option, Some, None, option_map, slice_get, Contains}
+use Rattle.std.proofs.Common.{◌≡◌, ℕ, Bool, true, false, ◌&&◌, List, [], ◌∷◌, length, refl, sym, ◌∙◌, ap, ◌⊎◌, inl, inr, ◌<◌, arith}
+use Rattle.std.specs.Prelude.{Option, Some, None, nat_lt, option_map, slice_get, Contains}
 use Rattle.std.specs.Option.{option_map_or}
-use Rattle.std.proofs.lemmas.Bool.{true≢false, eq-eqb, eqb-true, not-true}
+use Rattle.std.proofs.lemmas.Bool.{true≢false, eq-eqb, eqb-true, not-true, lt-ltb}
 use Rattle.graph_terms.specs.declared.verb.Line.{Line}
 use Rattle.graph_terms.specs.declared.verb.Verb.{Verb}
 use Rattle.graph_terms.specs.declared.verb.Verb.TheVariants.{User, Trigger, Cancel, Merge, MergeIgnore, Phase, Arrive, Acquire, Release}
@@ -11,7 +11,7 @@ use Rattle.std.proofs.lemmas.Option.{none-some, same_Some, slice_get_within}
 use Rattle.graph_terms.specs.declared.verb.Edge.{Edge}
 use Rattle.graph_terms.specs.declared.verb.EdgeKind.{EdgeKind}
 use Rattle.graph_terms.specs.declared.verb.EdgeKind.TheVariants.{Passes, Ignores, Faults}
-use Rattle.graph_terms.specs.Edges.{edge, last_place, edges_from_some, verb_edges}
+use Rattle.graph_terms.specs.Edges.{edge, last_place, edges_from_some, on_edges, verb_edges}
 use Rattle.basics.proofs.ListFacts.{contains_none, contains_cases, map_contains}
 use Rattle.graph_terms.specs.Laws.{AcquireByTest, ReleaseByTest, VerbOfAcquire, VerbOfRelease, AcquiresByVerb, ReleasesByVerb, PassingLineHasVerb, LinePassesAsVerb, VerbHasLine, VerbsAreBelowEnd, PassingLinesAreBelowEnd, ReleasesOneAcquire, AcquiresOneReservation, BothSharedEitherWay, PhaseByTest, AcquiresOrNot, NeverComesAs}
 
@@ -119,9 +119,13 @@ pub from_some_to : (kind : EdgeKind) (o : Option ℕ) (n : ℕ) (e : Edge) → C
 from_some_to kind None n e c = absurd (contains_none e c)
 from_some_to kind (Some k) n e c = sym (ap (λ (x : Edge). x.to) (one_is (edge k n kind) e c))
 
-pub from_some_has : (kind : EdgeKind) (o : Option ℕ) (n : ℕ) (e : Edge) → Contains (edges_from_some kind o n) e → (k : ℕ) × (o ≡ Some k)
-from_some_has kind None n e c = absurd (contains_none e c)
-from_some_has kind (Some k) n e c = (k, refl)
+-- an edge from an event behind `on` enters the line, and there is such an event
+pub on_edge_to : (on : List ℕ) (n : ℕ) (e : Edge) → Contains (on_edges on n) e → e.to ≡ n
+on_edge_to on n e c = let m = map_contains (λ k. edge k n Passes) on e c in sym (ap (λ (x : Edge). x.to) m.2)
+
+pub on_edge_has : (on : List ℕ) (n : ℕ) (e : Edge) → Contains (on_edges on n) e → nat_lt 0 (length on) ≡ true
+on_edge_has [] n e c = absurd (contains_none e c)
+on_edge_has (k ∷ on) n e c = lt-ltb 0 (length (k ∷ on)) (let h : 0 < length (k ∷ on) = omega arith in h)
 
 -- where the edges lead that a line gives: to itself, which is no user event, to the user event that it ends, or to the phase at which it arrives
 pub verb_edge_to : (before : List Line) (v : Verb) (e : Edge) → Contains (verb_edges before (length before) v) e → ((e.to ≡ length before) × (is_user v ≡ false)) ⊎ ((ends_user e.to v ≡ true) ⊎ ((p n w : ℕ) × (v ≡ Arrive p n w) × (e.to ≡ p)))

@@ -16,7 +16,7 @@ abbrev pub last_place : (Verb → Bool) → ℕ → List Line → Option ℕ →
 last_place test n [] found = found
 last_place test n (l ∷ ls) found = last_place test (n + 1) ls (cond (test l.verb) (Some n) found)
 
--- the edge of a precondition, where there is one
+-- the edge from a line that may be there
 abbrev pub edges_from_some : EdgeKind → Option ℕ → ℕ → List Edge
 edges_from_some kind None i = []
 edges_from_some kind (Some e) i = edge e i kind ∷ []
@@ -31,9 +31,13 @@ verb_edges before i (Arrive p value weight) = edge i p Passes ∷ []
 verb_edges before i (Phase b) = edges_from_some Ignores (last_place (is_phase_of b) 0 before None) i
 verb_edges before i _ = []
 
+-- the edges of the events behind `on`, in order
+abbrev pub on_edges : List ℕ → ℕ → List Edge
+on_edges on i = map (λ e. edge e i Passes) on
+
 -- the edges that the line after these lines gives
 abbrev pub line_edges : List Line → Line → List Edge
-line_edges before l = edges_from_some Passes l.on (length before) ++ verb_edges before (length before) l.verb
+line_edges before l = on_edges l.on (length before) ++ verb_edges before (length before) l.verb
 
 -- the edges of lines that stand after others
 abbrev pub edges_after : List Line → List Line → List Edge

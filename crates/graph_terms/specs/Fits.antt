@@ -1,11 +1,11 @@
 -- When an item fits after a graph: the reasons that may refuse it, in their order.
-use Rattle.std.specs.Prelude.{◌≡◌, ℕ, ◌+◌, ◌^◌, ◌<◌, nat_lt, nat_le, nat_eq, Bool, true, false, cond, not, ◌&&◌, ◌||◌, List, [], ◌∷◌, ◌++◌, length, map, filter, filter_map, sum_by, Option, Some, None, IsTrue, is_some}
+use Rattle.std.specs.Prelude.{◌≡◌, ℕ, ◌+◌, ◌^◌, ◌<◌, nat_lt, nat_le, nat_eq, Bool, true, false, cond, not, ◌&&◌, ◌||◌, List, [], ◌∷◌, ◌++◌, length, map, filter, filter_map, sum_by, Option, Some, None, IsTrue}
 use Rattle.std.specs.Option.{option_map_or}
 use Rattle.std.specs.List.{list_any, list_all, AllByRecursion}
 use Rattle.std.specs.Str.{bytes_eq}
 use Rattle.index_spaces.specs.Space.{has_point, points, space_size, IsSpace}
 use Rattle.index_spaces.specs.declared.limits.TheConstants.{MAX_INTERVALS, MAX_POINTS}
-use Rattle.graph_terms.specs.declared.limits.TheConstants.{MAX_TEXT, MAX_INSTS, MAX_COLUMNS, MAX_CELLS, MAX_LOCKS, MAX_BARRIERS, MAX_LINES, MAX_EDGES, MAX_EVENTS, MAX_COUNT}
+use Rattle.graph_terms.specs.declared.limits.TheConstants.{MAX_TEXT, MAX_INSTS, MAX_COLUMNS, MAX_CELLS, MAX_LOCKS, MAX_BARRIERS, MAX_LINES, MAX_EDGES, MAX_EVENTS, MAX_EVENTS_OF_THREE, MAX_COUNT}
 use Rattle.graph_terms.specs.declared.format.Format.{Format}
 use Rattle.graph_terms.specs.declared.format.Format.TheVariants.{One, Two, Three}
 use Rattle.graph_terms.specs.Format.{has_since}
@@ -120,11 +120,6 @@ named_lines (Merge events) = events
 named_lines (MergeIgnore events) = events
 named_lines v = filter_map (λ (p : Placed). named_line p.0 p.1) (verb_placed v)
 
--- the precondition as a list
-abbrev pub on_lines : Option ℕ → List ℕ
-on_lines None = []
-on_lines (Some e) = e ∷ []
-
 abbrev pub access_unknown : GraphValue → Access → Bool
 access_unknown g a = nat_le (length (columns g)) a.column || nat_le (length (named_spaces g)) a.space
 
@@ -138,7 +133,7 @@ abbrev pub verb_unknown : GraphValue → Verb → Bool
 verb_unknown g v = any_placed (place_unknown g) (verb_placed v)
 
 abbrev pub line_unknown : GraphValue → Line → Bool
-line_unknown g l = list_any (λ i. nat_le (length g.lines) i) (named_lines l.verb ++ on_lines l.on) || (verb_unknown g l.verb || list_any (access_unknown g) (verb_accesses l.verb))
+line_unknown g l = list_any (λ i. nat_le (length g.lines) i) (named_lines l.verb ++ l.on) || (verb_unknown g l.verb || list_any (access_unknown g) (verb_accesses l.verb))
 
 -- a named line is of another kind than its place takes
 abbrev pub place_unlike : GraphValue → Place → ℕ → Bool
@@ -153,6 +148,10 @@ verb_unlike g v = any_placed (place_unlike g) (verb_placed v)
 -- a verb that takes no precondition
 abbrev pub takes_no_on : Verb → Bool
 takes_no_on v = not (option_map_or kind_takes_on (verb_kind v) false)
+
+-- events behind `on` of a verb that takes none, or several of them, which format 3 brought
+abbrev pub on_unlike : Format → Verb → List ℕ → Bool
+on_unlike f v on = (takes_no_on v && nat_lt 0 (length on)) || (not (has_since Three f) && nat_lt 1 (length on))
 
 -- a verb that the format has not
 abbrev pub format_lacks : Format → Verb → Bool
@@ -188,22 +187,31 @@ abbrev pub arrives_late : GraphValue → Verb → Bool
 arrives_late g (Arrive phase value weight) = nat_lt (phase_count g phase) (arrivals g phase + weight)
 arrives_late g _ = false
 
--- a merge of too many events
-abbrev pub merges_many : Verb → Bool
-merges_many (Merge events) = nat_lt MAX_EVENTS (length events)
-merges_many (MergeIgnore events) = nat_lt MAX_EVENTS (length events)
-merges_many _ = false
+-- the most events of a merge, and the most behind `on`
+abbrev pub most_events : Format → ℕ
+most_events Three = MAX_EVENTS_OF_THREE
+most_events f = MAX_EVENTS
+
+-- the events that a merge names
+abbrev pub merged_events : Verb → List ℕ
+merged_events (Merge events) = events
+merged_events (MergeIgnore events) = events
+merged_events _ = []
+
+-- a merge of too many events, or too many behind `on`
+abbrev pub names_many : Format → Verb → List ℕ → Bool
+names_many f v on = nat_lt (most_events f) (length (merged_events v)) || nat_lt (most_events f) (length on)
 
 -- the reasons that may refuse a line after this graph
 abbrev pub line_tests : GraphValue → Line → List (Bool × Why)
 line_tests g l =
-    (is_used g l.name || (verb_repeats g l.verb || repeats nat_eq (map (λ (a : Access). a.column) (verb_accesses l.verb))), why.Twice)
+    (is_used g l.name || (verb_repeats g l.verb || (repeats nat_eq (map (λ (a : Access). a.column) (verb_accesses l.verb)) || repeats nat_eq l.on)), why.Twice)
     ∷ (line_unknown g l, why.Unknown)
-    ∷ (verb_unlike g l.verb || ((takes_no_on l.verb && is_some l.on) || format_lacks g.format l.verb), why.Kind)
+    ∷ (verb_unlike g l.verb || (on_unlike g.format l.verb l.on || format_lacks g.format l.verb), why.Kind)
     ∷ (verb_misnumbered g.format l.verb, why.Number)
     ∷ (list_any (access_outside g) (verb_accesses l.verb), why.Outside)
     ∷ (arrives_late g l.verb, why.Arrivals)
-    ∷ (merges_many l.verb || is_beyond (with_line g l), why.Limit)
+    ∷ (names_many g.format l.verb l.on || is_beyond (with_line g l), why.Limit)
     ∷ []
 
 -- the first of them

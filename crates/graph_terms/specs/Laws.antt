@@ -1,12 +1,12 @@
 -- What holds of verbs, lines and graphs whose items fit.
-use Rattle.std.specs.Prelude.{◌≡◌, ℕ, true, Some, Bool, slice_get, ◌<◌, length, ◌⊎◌, false, List, Contains, None, ◌++◌, filter_map, flat_map, [], ◌∷◌, ◌≤◌, ◌+◌, ◌||◌, ◌&&◌, is_some, not, ◌↔◌, IsTrue, ◌-◌, nat_le, take, get_or, zip, slice_index, map}
+use Rattle.std.specs.Prelude.{◌≡◌, ℕ, true, Some, Bool, slice_get, ◌<◌, length, ◌⊎◌, false, List, Contains, None, ◌++◌, filter_map, flat_map, [], ◌∷◌, ◌≤◌, ◌+◌, ◌||◌, not, ◌↔◌, IsTrue, ◌-◌, nat_le, take, get_or, zip, slice_index, map}
 use Rattle.graph_terms.specs.declared.verb.Verb.{Verb}
 use Rattle.graph_terms.specs.declared.verb.Verb.TheVariants.{Acquire, Release, Phase, User, Arrive}
 use Rattle.graph_terms.specs.Graph.{upgraded_format, is_acquire_of, is_shared, is_release_of, GraphValue, verb_at, line_passes, is_phase, ends_user, never_comes_as, locks, space_of, named_spaces, space_at, barriers, columns_of, columns, is_user, column_space}
 use Rattle.graph_terms.specs.Reservations.{Acquires, Releases, both_shared}
 use Rattle.graph_terms.specs.declared.verb.Line.{Line}
 use Rattle.std.specs.List.{list_any}
-use Rattle.graph_terms.specs.Fits.{IsGraph, first_reason, line_fault, line_unknown, named_lines, on_lines, DeclsFit, LinesFit, with_decl, decl_fault, IsDecl, is_decl_named, with_line, IsLine, is_beyond, takes_no_on, format_lacks, verb_unlike, access_outside}
+use Rattle.graph_terms.specs.Fits.{IsGraph, first_reason, line_fault, line_unknown, named_lines, DeclsFit, LinesFit, with_decl, decl_fault, IsDecl, is_decl_named, with_line, IsLine, is_beyond, on_unlike, names_many, format_lacks, verb_unlike, access_outside}
 use Rattle.graph_terms.specs.declared.why.Why.{Why}
 use Rattle.graph_terms.specs.declared.format.Format.{Format}
 use Rattle.graph_terms.specs.declared.decl.Decl.{Decl}
@@ -124,7 +124,7 @@ FittingLinesNameKnown = (g : GraphValue) (l : Line) → line_fault g l ≡ None 
 
 -- a line that fits names lines above it
 abbrev pub NamedLinesAreAbove : Type 0
-NamedLinesAreAbove = (g : GraphValue) (l : Line) → line_fault g l ≡ None → (k : ℕ) → Contains (named_lines l.verb ++ on_lines l.on) k → k < length g.lines
+NamedLinesAreAbove = (g : GraphValue) (l : Line) → line_fault g l ≡ None → (k : ℕ) → Contains (named_lines l.verb ++ l.on) k → k < length g.lines
 
 -- the edges that a line gives lead no further than to itself
 abbrev pub EdgesReachNoFurther : Type 0
@@ -208,7 +208,7 @@ EdgeOfArrival = (g : GraphValue) (i p v w : ℕ) → verb_at g i ≡ Some (Arriv
 -- of a line that fits what it names is of its kind, what it waits for is allowed, and its format has its verb
 abbrev pub FittingKind : Type 0
 FittingKind = (g : GraphValue) (l : Line) → line_fault g l ≡ None →
-    (verb_unlike g l.verb ≡ false) × ((takes_no_on l.verb && is_some l.on) ≡ false) × (format_lacks g.format l.verb ≡ false)
+    (verb_unlike g l.verb ≡ false) × (on_unlike g.format l.verb l.on ≡ false) × (format_lacks g.format l.verb ≡ false)
 
 -- a user event that an edge enters is ended by a line
 abbrev pub EndedUserEvent : Type 0
@@ -257,6 +257,14 @@ UpgradedFormatIsLater = (f : Format) → has_since f (upgraded_format f) ≡ tru
 -- a verb of a format is one of each later format
 abbrev pub LaterFormatsHaveVerbs : Type 0
 LaterFormatsHaveVerbs = (f h : Format) → has_since f h ≡ true → (v : Verb) → format_lacks f v ≡ false → format_lacks h v ≡ false
+
+-- events behind `on` that a format takes are ones that each later format takes
+abbrev pub LaterFormatsTakeEvents : Type 0
+LaterFormatsTakeEvents = (f h : Format) → has_since f h ≡ true → (v : Verb) (on : List ℕ) → on_unlike f v on ≡ false → on_unlike h v on ≡ false
+
+-- events that are not too many for a format are not too many for a later one
+abbrev pub LaterFormatsNameMore : Type 0
+LaterFormatsNameMore = (f h : Format) → has_since f h ≡ true → (v : Verb) (on : List ℕ) → names_many f v on ≡ false → names_many h v on ≡ false
 
 -- a name of a format is one of each later format
 abbrev pub LaterFormatsHaveNames : Type 0

@@ -1,5 +1,5 @@
 -- The one spelling of a graph's declarations and lines.
-use Rattle.std.specs.Prelude.{ℕ, List, [], ◌∷◌, ◌++◌, map, Option, Some, None, slice_get, codes, decimal}
+use Rattle.std.specs.Prelude.{ℕ, List, [], ◌∷◌, ◌++◌, map, slice_get, codes, decimal}
 use Rattle.std.specs.Option.{option_map_or}
 use Rattle.std.specs.List.{join_with_byte}
 use Rattle.index_spaces.specs.declared.Op.{Op}
@@ -82,9 +82,10 @@ verb_words g (Merge events) = codes "merge" ∷ map (line_name g) events
 verb_words g (MergeIgnore events) = codes "mergei" ∷ map (line_name g) events
 verb_words g v = option_map_or kind_words (verb_kind v) [] ++ placed_words g (verb_placed v)
 
-abbrev pub on_words : GraphValue → Option ℕ → List (List ℕ)
-on_words g None = []
-on_words g (Some e) = codes "on" ∷ line_name g e ∷ []
+-- `on` and the events behind it, where there are any
+abbrev pub on_words : GraphValue → List ℕ → List (List ℕ)
+on_words g [] = []
+on_words g (e ∷ es) = codes "on" ∷ map (line_name g) (e ∷ es)
 
 -- the words of a line, after this graph
 abbrev pub line_words : GraphValue → Line → List (List ℕ)

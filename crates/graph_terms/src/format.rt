@@ -5,7 +5,8 @@ ghost use Rattle.graph_terms.specs.Format.{has_since};
 
 /// Which format a graph has. Format 2 has weighted arrivals and shared acquires, and takes
 /// reductions by the least and by the greatest value for what they are, where format 1 takes them
-/// for writes. Format 3 has longer names, also with capital letters, and comments in its text.
+/// for writes. Format 3 has lines that wait for several events, longer names, also
+/// with capital letters, and comments in its text.
 #[derive(Clone, Copy, Debug, PartialEq, Eq)]
 pub enum Format {
     One,

@@ -27,8 +27,11 @@ pub const MAX_EDGES: u64 = 65_536;
 /// The most accesses of a line.
 pub const MOST_ACCESSES: u32 = 3;
 
-/// The most lines that a merge names.
+/// The most events that a merge names in formats 1 and 2.
 pub const MAX_EVENTS: u32 = 64;
+
+/// The most events that a merge names in format 3, and the most behind `on`.
+pub const MAX_EVENTS_OF_THREE: u32 = 4_096;
 
 /// The most arrivals that a phase counts.
 pub const MAX_COUNT: u32 = 8_192;

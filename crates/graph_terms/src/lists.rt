@@ -7,6 +7,7 @@ use crate::outcome::{Answer, End};
 use index_spaces::NoMemory;
 use index_spaces::column::Column;
 use index_spaces::room::{filled, push};
+use smallvec::SmallVec;
 use std::alloc::Global;
 use std::marker::Model;
 
@@ -24,6 +25,61 @@ impl<T> Model for ItemList<T> {
     ghost view = { λ a. a.items.items };
 
     ghost invariant = { λ a. length a.items.items < 2 ^ 32 };
+}
+
+/// The events that a line waits for, in the order of its words: fewer than 2^32. One or two take no memory of their own.
+#[derive(Drop)]
+pub struct EventList {
+    pub items: SmallVec<u32, 2>,
+}
+
+impl Model for EventList {
+    ghost use Rattle.std.specs.Prelude.{List, ℕ, length, ◌<◌, ◌^◌};
+
+    ghost Value = { List ℕ };
+
+    ghost view = { λ a. a.items.items };
+
+    ghost invariant = { λ a. length a.items.items < 2 ^ 32 };
+}
+
+impl EventList {
+    ghost use Rattle.std.specs.Prelude.{◌≡◌, ◌<◌, [], ◌∷◌, ◌++◌, length, OnOk, OnErr};
+
+    /// The list without events.
+    pub fn new(alloc: Global) -> EventList
+        ensures { result ≡ [] }
+    {
+        EventList {
+            items: SmallVec::new(alloc),
+        }
+    }
+
+    /// Puts an event at the end. `NoMemory` leaves the list as it was.
+    pub fn push(&mut self, event: u32) -> Result<(), NoMemory>
+        requires { length self.old < u32.MAX }
+        ensures ok { OnOk result (self.new ≡ self.old ++ event ∷ []) }
+        ensures err { OnErr result (self.new ≡ self.old) }
+    {
+        match self.items.push(event) {
+            Ok(()) => Ok(()),
+            Err(_) => Err(NoMemory),
+        }
+    }
+
+    /// How many there are.
+    pub fn len(&self) -> u32
+        ensures { result ≡ length self.now }
+    {
+        self.items.len() as u32
+    }
+
+    /// The events, in order.
+    pub fn as_slice(&self) -> &[u32]
+        ensures { result.now ≡ self.now }
+    {
+        self.items.as_slice()
+    }
 }
 
 /// Names, in order.

@@ -1,16 +1,16 @@
 //! Operation lines.
 
-use crate::lists::LineList;
+use crate::lists::{EventList, LineList};
 use crate::name::Name;
 pub use crate::table::Kernel;
 use index_spaces::Op;
 
-/// A line: its name, what it does, and the line that it waits for.
+/// A line: its name, what it does, and the lines that it waits for.
 #[derive(Drop)]
 pub struct Line {
     pub name: Name,
     pub verb: Verb,
-    pub on: Option<u32>,
+    pub on: EventList,
 }
 
 impl Line {

@@ -1,12 +1,12 @@
 -- What declarations and lines have that no reason refuses.
-use Rattle.std.proofs.Common.{◌≡◌, ℕ, ◌<◌, false, ◌&&◌, ◌||◌, List, ◌++◌, length, map}
-use Rattle.std.specs.Prelude.{is_some, nat_eq, nat_le}
+use Rattle.std.proofs.Common.{◌≡◌, ℕ, ◌<◌, false, ◌||◌, List, ◌++◌, length, map}
+use Rattle.std.specs.Prelude.{nat_eq, nat_le}
 use Rattle.std.specs.List.{list_any, AllByRecursion}
 use Rattle.std.proofs.lemmas.Bool.{or_parts, leb-false}
 use Rattle.graph_terms.specs.declared.verb.Access.{Access}
 use Rattle.graph_terms.specs.Graph.{GraphValue, named_spaces, columns, decl_name}
 use Rattle.graph_terms.specs.Access.{verb_accesses}
-use Rattle.graph_terms.specs.Fits.{is_used, repeats, verb_repeats, named_lines, on_lines, access_unknown, verb_unknown, verb_unlike, takes_no_on, format_lacks, line_tests, decl_repeats, decl_tests}
+use Rattle.graph_terms.specs.Fits.{is_used, repeats, verb_repeats, named_lines, access_unknown, verb_unknown, verb_unlike, on_unlike, format_lacks, line_tests, decl_repeats, decl_tests}
 use Rattle.graph_words.proofs.TextLists.{each_fails}
 use Rattle.basics.proofs.TestedLists.{any_left, any_right, each_from_none, each_weaker}
 use Rattle.graph_words.specs.Known.{IsKnownAccess}
@@ -22,18 +22,20 @@ below_each g is h = each_weaker (λ i. nat_le (length g.lines) i ≡ false) (λ 
 pub known_line_of : LinesNameKnown
 known_line_of g l h f =
     let t = each_fails (line_tests g l) f in
-    let u = or_parts (is_used g l.name) (verb_repeats g l.verb || repeats nat_eq (map (λ (a : Access). a.column) (verb_accesses l.verb))) t.0 in
-    let v = or_parts (verb_repeats g l.verb) (repeats nat_eq (map (λ (a : Access). a.column) (verb_accesses l.verb))) u.1 in
-    let w = or_parts (list_any (λ i. nat_le (length g.lines) i) (named_lines l.verb ++ on_lines l.on)) (verb_unknown g l.verb || list_any (access_unknown g) (verb_accesses l.verb)) t.1.0 in
+    let columns = repeats nat_eq (map (λ (a : Access). a.column) (verb_accesses l.verb)) in
+    let u = or_parts (is_used g l.name) (verb_repeats g l.verb || (columns || repeats nat_eq l.on)) t.0 in
+    let v = or_parts (verb_repeats g l.verb) (columns || repeats nat_eq l.on) u.1 in
+    let o = or_parts columns (repeats nat_eq l.on) v.1 in
+    let w = or_parts (list_any (λ i. nat_le (length g.lines) i) (named_lines l.verb ++ l.on)) (verb_unknown g l.verb || list_any (access_unknown g) (verb_accesses l.verb)) t.1.0 in
     let x = or_parts (verb_unknown g l.verb) (list_any (access_unknown g) (verb_accesses l.verb)) w.1 in
-    let y = or_parts (verb_unlike g l.verb) ((takes_no_on l.verb && is_some l.on) || format_lacks g.format l.verb) t.1.1.0 in
-    let z = or_parts (takes_no_on l.verb && is_some l.on) (format_lacks g.format l.verb) y.1 in
+    let y = or_parts (verb_unlike g l.verb) (on_unlike g.format l.verb l.on || format_lacks g.format l.verb) t.1.1.0 in
+    let z = or_parts (on_unlike g.format l.verb l.on) (format_lacks g.format l.verb) y.1 in
     record {
       verb = record {
         accesses = each_weaker (λ a. access_unknown g a ≡ false) (IsKnownAccess g) (known_access g) (verb_accesses l.verb) (each_from_none (access_unknown g) (verb_accesses l.verb) x.1);
-        events = below_each g (named_lines l.verb) (any_left (λ i. nat_le (length g.lines) i) (named_lines l.verb) (on_lines l.on) w.0);
+        events = below_each g (named_lines l.verb) (any_left (λ i. nat_le (length g.lines) i) (named_lines l.verb) l.on w.0);
         once = v.0;
-        columns_once = v.1;
+        columns_once = o.0;
         known = x.0;
         alike = y.0;
         counted = t.1.1.1.0;
@@ -41,7 +43,8 @@ known_line_of g l h f =
         values = h.values;
       };
       new = u.0;
-      on_below = below_each g (on_lines l.on) (any_right (λ i. nat_le (length g.lines) i) (named_lines l.verb) (on_lines l.on) w.0);
+      on_below = below_each g l.on (any_right (λ i. nat_le (length g.lines) i) (named_lines l.verb) l.on w.0);
+      on_once = o.1;
       takes_on = z.0;
     }
 

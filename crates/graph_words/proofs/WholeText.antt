@@ -1,6 +1,6 @@
 -- The text of a graph by the names of the whole graph: what a writer puts, line by line.
 use Rattle.std.proofs.Common.{◌≡◌, ℕ, zero, suc, ◌<◌, false, List, [], ◌∷◌, ◌++◌, length, map, refl, sym, ◌∙◌, ap, append_assoc, arith}
-use Rattle.std.specs.Prelude.{Option, Some, None, filter_map, flat_map, zip, slice_get, codes}
+use Rattle.std.specs.Prelude.{Option, filter_map, flat_map, zip, slice_get, codes}
 use Rattle.std.specs.Option.{option_map_or}
 use Rattle.std.specs.List.{AllByRecursion}
 use Rattle.std.proofs.lemmas.Bool.{leb-false}
@@ -16,7 +16,7 @@ use Rattle.graph_terms.specs.declared.table.Place.TheVariants.{User, Phase, Acqu
 use Rattle.graph_terms.specs.Table.{Placed, kind_words, verb_kind, verb_places, verb_parts}
 use Rattle.graph_terms.specs.Graph.{GraphValue, space_of, named_spaces}
 use Rattle.graph_terms.specs.Spelling.{space_name, line_name, comma_word, spelled, decl_words, place_word, placed_words, verb_words, on_words, line_words, header, decls_text, lines_text, head}
-use Rattle.graph_terms.specs.Fits.{decl_unknown, named_line, named_lines, on_lines, DeclsFit, LinesFit, IsGraph}
+use Rattle.graph_terms.specs.Fits.{decl_unknown, named_line, named_lines, DeclsFit, LinesFit, IsGraph}
 use Rattle.graph_words.specs.Text.{closing, text}
 use Rattle.graph_words.proofs.KnownItems.{known_decl_of, known_line_of}
 
@@ -59,12 +59,12 @@ verb_kept fm ds ks ls (Merge events) h = ap (λ xs. codes "merge" ∷ xs) (lines
 verb_kept fm ds ks ls (MergeIgnore events) h = ap (λ xs. codes "mergei" ∷ xs) (lines_kept fm ds ks ls events h)
 verb_kept fm ds ks ls v h = ap (λ xs. option_map_or kind_words (verb_kind v) [] ++ xs) (number_kept fm ds ks ls (verb_places v) (verb_parts v) h)
 
-on_kept : (fm : Format) (ds : List Decl) (ks ls : List Line) (o : Option ℕ) → AllByRecursion (λ i. i < length ks) (on_lines o) → on_words (graph_of fm ds ks) o ≡ on_words (graph_of fm ds (ks ++ ls)) o
-on_kept fm ds ks ls None h = refl
-on_kept fm ds ks ls (Some e) h = ap (λ x. codes "on" ∷ x ∷ []) (line_kept fm ds ks ls e h.0)
+on_kept : (fm : Format) (ds : List Decl) (ks ls : List Line) (on : List ℕ) → AllByRecursion (λ i. i < length ks) on → on_words (graph_of fm ds ks) on ≡ on_words (graph_of fm ds (ks ++ ls)) on
+on_kept fm ds ks ls [] h = refl
+on_kept fm ds ks ls (e ∷ es) h = ap (λ xs. codes "on" ∷ xs) (lines_kept fm ds ks ls (e ∷ es) h)
 
 -- the words of a line stay the same when lines follow
-pub line_words_kept : (fm : Format) (ds : List Decl) (ks ls : List Line) (l : Line) → AllByRecursion (λ i. i < length ks) (named_lines l.verb) → AllByRecursion (λ i. i < length ks) (on_lines l.on) → line_words (graph_of fm ds ks) l ≡ line_words (graph_of fm ds (ks ++ ls)) l
+pub line_words_kept : (fm : Format) (ds : List Decl) (ks ls : List Line) (l : Line) → AllByRecursion (λ i. i < length ks) (named_lines l.verb) → AllByRecursion (λ i. i < length ks) l.on → line_words (graph_of fm ds ks) l ≡ line_words (graph_of fm ds (ks ++ ls)) l
 line_words_kept fm ds ks ls l h k = ap (λ xs. l.name ∷ codes "=" ∷ xs ++ on_words (graph_of fm ds ks) l.on) (verb_kept fm ds ks ls l.verb h) ∙ ap (λ ys. l.name ∷ codes "=" ∷ verb_words (graph_of fm ds (ks ++ ls)) l.verb ++ ys) (on_kept fm ds ks ls l.on k)
 
 decls_flat : (fm : Format) (all : List Decl) (lines : List Line) (before ds : List Decl) → before ++ ds ≡ all → DeclsFit fm before ds → decls_text fm before ds ≡ flat_map (λ d. spelled (decl_words (graph_of fm all lines) d)) ds

@@ -1,5 +1,5 @@
 -- A line of text with its words in their places, before the names in it are looked up.
-use Rattle.std.specs.Prelude.{ℕ, ◌+◌, ◌==◌, Bool, true, cond, ◌&&◌, ◌||◌, List, [], ◌∷◌, ◌++◌, length, map, drop, find, zip, ◌⊎◌, Option, Some, None, option_map, unwrap_or, slice_index_or, codes, position}
+use Rattle.std.specs.Prelude.{ℕ, ◌+◌, ◌==◌, nat_le, Bool, true, cond, ◌&&◌, ◌||◌, List, [], ◌∷◌, ◌++◌, length, map, drop, find, zip, ◌⊎◌, Option, Some, None, option_map, unwrap_or, slice_index_or, codes, position}
 use Rattle.std.specs.List.{starts_with, list_all}
 use Rattle.std.specs.Str.{bytes_eq}
 use Rattle.std.proofs.Common.{inl, inr}
@@ -15,6 +15,7 @@ use Rattle.graph_terms.specs.declared.table.TheConstants.{KINDS}
 use Rattle.graph_terms.specs.declared.table.Place as table
 use Rattle.graph_terms.specs.declared.table.Place.TheVariants as places
 use Rattle.graph_terms.specs.declared.format.Format.{Format}
+use Rattle.graph_terms.specs.declared.format.Format.TheVariants.{Three}
 use Rattle.graph_terms.specs.Format.{has_since}
 use Rattle.graph_terms.specs.Table.{kind_words, kind_places, kind_takes_on, kind_since, verb_of}
 use Rattle.graph_terms.specs.declared.decl.ColumnInfo.{ColumnInfo}
@@ -103,9 +104,17 @@ forms = map form_of KINDS
 abbrev pub same_word : List ℕ → List ℕ → Bool
 same_word a b = bytes_eq a b
 
--- whether the words behind the fixed words are as many as the places, or two more of which the first is `on`
-abbrev pub has_on : Form → List (List ℕ) → Bool
-has_on f rest = f.takes_on && (length rest == length f.places + 2 && same_word (slice_index_or rest (length f.places) []) (codes "on"))
+-- whether words are as many as these places, `on` and its events: one event in formats 1 and 2, one or more in format 3
+abbrev pub has_events : Format → ℕ → ℕ → Bool
+has_events format places words = cond (has_since Three format) (nat_le (places + 2) words) (words == places + 2)
+
+-- whether `on` stands behind the words in their places, and its events behind it
+abbrev pub has_on : Format → Form → List (List ℕ) → Bool
+has_on format f rest = f.takes_on && (has_events format (length f.places) (length rest) && same_word (slice_index_or rest (length f.places) []) (codes "on"))
+
+-- the words of the events behind `on`
+abbrev pub on_events : Format → Form → List (List ℕ) → List (List ℕ)
+on_events format f rest = cond (has_on format f rest) (drop (length f.places + 1) rest) []
 
 -- whether a word is the one that its place takes, where that takes one word alone
 abbrev pub is_own_word : Place → List ℕ → Bool
@@ -113,34 +122,42 @@ is_own_word Times w = same_word w (codes "times")
 is_own_word Shared w = same_word w (codes "shared")
 is_own_word _ w = true
 
+-- whether there is a word for each place, with `on` and its events behind these or without
+abbrev pub has_room : Format → Form → List (List ℕ) → Bool
+has_room format f rest = length rest == length f.places || has_on format f rest
+
 -- whether the words behind the fixed ones fit the form, and the format has it
 abbrev pub fits_behind : Format → Form → List (List ℕ) → Bool
-fits_behind format f rest = has_since f.since format && ((length rest == length f.places || has_on f rest) && list_all (λ (p : Placed). is_own_word p.0 p.1) (zip f.places rest))
+fits_behind format f rest = has_since f.since format && (has_room format f rest && list_all (λ (p : Placed). is_own_word p.0 p.1) (zip f.places rest))
 
 -- whether the words have the form
 abbrev pub is_of_form : Format → List (List ℕ) → Form → Bool
 is_of_form format ws f = starts_with same_word ws f.words && fits_behind format f (drop (length f.words) ws)
 
--- the last word in the place of an event, where `on` stands
-abbrev pub on_placed : Form → List (List ℕ) → List Placed
-on_placed f rest = cond (has_on f rest) ((EventName, slice_index_or rest (length f.places + 1) []) ∷ []) []
+-- words, each in the place of an event
+abbrev pub events_placed : List (List ℕ) → List Placed
+events_placed es = map (λ w. (EventName, w)) es
+
+-- the words of the events behind `on` in their places
+abbrev pub on_placed : Format → Form → List (List ℕ) → List Placed
+on_placed format f rest = events_placed (on_events format f rest)
 
 -- the words behind the name and the sign of a line of this form
 abbrev pub form_draft : GraphValue → List ℕ → List (List ℕ) → Form → Draft
 form_draft g name rest f = record {
-  placed = (NewName, name) ∷ zip f.places rest ++ on_placed f rest;
+  placed = (NewName, name) ∷ zip f.places rest ++ on_placed g.format f rest;
   item = inr (record {
     name = name;
     verb = f.verb (map (number_in g) (zip f.places rest));
-    on = cond (has_on f rest) (Some (line_number g (slice_index_or rest (length f.places + 1) []))) None;
+    on = map (line_number g) (on_events g.format f rest);
   });
 }
 
 -- the words behind the fixed one of a merge
 abbrev pub merge_with : GraphValue → List ℕ → (List ℕ → Verb) → List (List ℕ) → Draft
 merge_with g name verb es = record {
-  placed = (NewName, name) ∷ map (λ w. (EventName, w)) es;
-  item = inr (record { name = name; verb = verb (map (line_number g) es); on = None });
+  placed = (NewName, name) ∷ events_placed es;
+  item = inr (record { name = name; verb = verb (map (line_number g) es); on = [] });
 }
 
 -- a merge of one or more events

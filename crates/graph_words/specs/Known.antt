@@ -1,11 +1,11 @@
 -- What a line and a declaration have where no reason refuses them.
-use Rattle.std.specs.Prelude.{◌<◌, length, ◌≡◌, false, map, nat_eq, ◌&&◌, is_some}
+use Rattle.std.specs.Prelude.{◌<◌, length, ◌≡◌, false, map, nat_eq}
 use Rattle.graph_terms.specs.declared.verb.Access.{Access}
 use Rattle.graph_terms.specs.Graph.{GraphValue, named_spaces, columns, decl_name}
 use Rattle.std.specs.List.{AllByRecursion}
 use Rattle.graph_terms.specs.declared.verb.Verb.{Verb}
 use Rattle.graph_terms.specs.Access.{verb_accesses}
-use Rattle.graph_terms.specs.Fits.{repeats, verb_repeats, named_lines, verb_unknown, verb_unlike, format_lacks, verb_misnumbered, IsVerb, is_used, on_lines, takes_no_on, decl_repeats, decl_unknown, decl_misnumbered}
+use Rattle.graph_terms.specs.Fits.{repeats, verb_repeats, named_lines, verb_unknown, verb_unlike, format_lacks, verb_misnumbered, IsVerb, is_used, on_unlike, decl_repeats, decl_unknown, decl_misnumbered}
 use Rattle.graph_terms.specs.declared.verb.Line.{Line}
 use Rattle.graph_terms.specs.declared.decl.Decl.{Decl}
 
@@ -28,8 +28,9 @@ pub record IsKnownVerb (g : GraphValue) (v : Verb) : Type 0 where
 pub record IsKnownLine (g : GraphValue) (l : Line) : Type 0 where
   pub verb : IsKnownVerb g l.verb
   pub new : is_used g l.name ≡ false
-  pub on_below : AllByRecursion (λ i. i < length g.lines) (on_lines l.on)
-  pub takes_on : (takes_no_on l.verb && is_some l.on) ≡ false
+  pub on_below : AllByRecursion (λ i. i < length g.lines) l.on
+  pub on_once : repeats nat_eq l.on ≡ false
+  pub takes_on : on_unlike g.format l.verb l.on ≡ false
 
 -- what a declaration has where no reason refuses it
 pub record IsKnownDecl (g : GraphValue) (d : Decl) : Type 0 where

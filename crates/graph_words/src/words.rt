@@ -4,7 +4,7 @@ ghost use Rattle.basics.specs.Words.{contents};
 ghost use Rattle.std.specs.Prelude.{◌≡◌, ◌≤◌, ℕ, List, ◌∷◌, length, drop, map, ◌==◌, find, OnOk, IfOk, IfSome, MatchOption, [], slice_index_or, option_map, option_copied};
 ghost use Rattle.graph_terms.specs.Format.{has_since};
 ghost use Rattle.graph_words.specs.Words.{pieces};
-ghost use Rattle.graph_words.specs.Draft.{Placed, form_of, is_own_word, fits_behind, is_of_form, same_word, has_on, as_place, words_in};
+ghost use Rattle.graph_words.specs.Draft.{Placed, form_of, is_own_word, fits_behind, is_of_form, same_word, has_events, has_on, on_events, has_room, as_place, words_in};
 ghost use Rattle.std.specs.List.{list_any, list_all, starts_with};
 
 use crate::cuts::cut;
@@ -87,12 +87,37 @@ pub fn place_count(kind: Kind) -> usize
     kind.places().len()
 }
 
-/// Whether `on` and a word follow the words of a kind.
-pub fn has_on(kind: Kind, rest: &[&[u8]]) -> bool
-    ensures { result ≡ has_on (form_of kind) (contents rest.now) }
+/// Whether words are as many as these places, `on` and its events: one event in formats 1 and 2,
+/// one or more in format 3.
+fn has_events(format: Format, places: usize, words: usize) -> bool
+    ensures { result ≡ has_events format places words }
+{
+    if format.has_since(Format::Three) {
+        words > places && words - places > 1
+    } else {
+        words > places && words - places == 2
+    }
+}
+
+/// Whether `on` and its events follow the words in the places of a kind.
+pub fn has_on(format: Format, kind: Kind, rest: &[&[u8]]) -> bool
+    ensures { result ≡ has_on format (form_of kind) (contents rest.now) }
 {
     let places = place_count(kind);
-    kind.takes_on() && rest.len() == places + 2 && word(rest, places) == b"on".as_slice()
+    kind.takes_on()
+        && has_events(format, places, rest.len())
+        && word(rest, places) == b"on".as_slice()
+}
+
+/// The words of the events behind `on`.
+pub fn on_events<'a, 'b>(format: Format, kind: Kind, rest: &'b [&'a [u8]]) -> &'b [&'a [u8]]
+    ensures { contents result.now ≡ on_events format (form_of kind) (contents rest.now) }
+{
+    if has_on(format, kind, rest) {
+        behind(rest, place_count(kind) + 1)
+    } else {
+        &[]
+    }
 }
 
 /// Whether a format has a kind.
@@ -123,13 +148,18 @@ fn are_own_words(places: &[Place], words: &[&[u8]]) -> bool
         .all(|(place, word)| is_own_word(*place, word))
 }
 
+/// Whether there is a word for each place, with `on` and its events behind these or without.
+fn has_room(format: Format, kind: Kind, rest: &[&[u8]]) -> bool
+    ensures { result ≡ has_room format (form_of kind) (contents rest.now) }
+{
+    rest.len() == place_count(kind) || has_on(format, kind, rest)
+}
+
 /// Whether the words behind the fixed ones fit a kind, and the format has it.
 fn fits_behind(format: Format, kind: Kind, rest: &[&[u8]]) -> bool
     ensures { result ≡ fits_behind format (form_of kind) (contents rest.now) }
 {
-    has_kind(format, kind)
-        && (rest.len() == place_count(kind) || has_on(kind, rest))
-        && are_own_words(kind.places(), rest)
+    has_kind(format, kind) && has_room(format, kind, rest) && are_own_words(kind.places(), rest)
 }
 
 /// Whether the words behind the sign have the form of a kind.

@@ -13,7 +13,7 @@ use crate::word_kinds::{Word, line_word, op_word, part_word, put_behind, put_spa
 use graph_model::graph::Graph;
 use graph_terms::decl::Decl;
 use graph_terms::format::Format;
-use graph_terms::lists::{LineList, NameList};
+use graph_terms::lists::{EventList, NameList};
 use graph_terms::name::Name;
 use graph_terms::table::{Parts, Place};
 use graph_terms::verb::{Line, Verb};
@@ -58,25 +58,25 @@ fn put_placed<K: Sink>(sink: &mut K, graph: &Graph, verb: &Verb) -> Result<(), W
 }
 
 /// Writes the names of lines, each behind a space.
-fn put_events<K: Sink>(sink: &mut K, graph: &Graph, events: &LineList) -> Result<(), WriteFault>
+fn put_events<K: Sink>(sink: &mut K, graph: &Graph, events: &[u32]) -> Result<(), WriteFault>
     ensures { Writes (K.state sink.old) (K.state sink.new) result (flat_map (λ n. 32 ∷ line_name graph.now n) events.now) }
 {
-    for i in 0..events.len() {
-        put_behind(sink, b" ", &line_word(graph, events.at(i)))?;
+    for event in events {
+        put_behind(sink, b" ", &line_word(graph, *event))?;
     }
     Ok(())
 }
 
-/// Writes the words of a merge, each behind a space.
-fn put_merge<K: Sink>(
+/// Writes a word and the names of lines, each behind a space.
+fn put_before_events<K: Sink>(
     sink: &mut K,
     graph: &Graph,
-    verb: &'static [u8],
-    events: &LineList,
+    first: &'static [u8],
+    events: &[u32],
 ) -> Result<(), WriteFault>
-    ensures { Writes (K.state sink.old) (K.state sink.new) result (spaced (verb.now ∷ map (line_name graph.now) events.now)) }
+    ensures { Writes (K.state sink.old) (K.state sink.new) result (spaced (first.now ∷ map (line_name graph.now) events.now)) }
 {
-    put_behind(sink, b" ", &Word::Fixed(verb))?;
+    put_behind(sink, b" ", &Word::Fixed(first))?;
     put_events(sink, graph, events)
 }
 
@@ -85,20 +85,24 @@ fn put_verb<K: Sink>(sink: &mut K, graph: &Graph, verb: &Verb) -> Result<(), Wri
     ensures { Writes (K.state sink.old) (K.state sink.new) result (spaced (verb_words graph.now verb.now)) }
 {
     match verb {
-        Verb::Merge { events } => put_merge(sink, graph, b"merge", events),
-        Verb::MergeIgnore { events } => put_merge(sink, graph, b"mergei", events),
+        Verb::Merge { events } => {
+            put_before_events(sink, graph, b"merge", events.items.as_slice())
+        }
+        Verb::MergeIgnore { events } => {
+            put_before_events(sink, graph, b"mergei", events.items.as_slice())
+        }
         _ => put_placed(sink, graph, verb),
     }
 }
 
 /// Writes the words of a precondition, each behind a space, or nothing.
-fn put_on<K: Sink>(sink: &mut K, graph: &Graph, on: Option<u32>) -> Result<(), WriteFault>
-    ensures { Writes (K.state sink.old) (K.state sink.new) result (spaced (on_words graph.now on)) }
+fn put_on<K: Sink>(sink: &mut K, graph: &Graph, on: &EventList) -> Result<(), WriteFault>
+    ensures { Writes (K.state sink.old) (K.state sink.new) result (spaced (on_words graph.now on.now)) }
 {
-    match on {
-        Some(event) => put_spaced(sink, &[Word::Fixed(b"on"), line_word(graph, event)]),
-        None => put_bytes(sink, b""),
+    if on.len() == 0 {
+        return put_bytes(sink, b"");
     }
+    put_before_events(sink, graph, b"on", on.as_slice())
 }
 
 /// Writes an operation line.
@@ -108,7 +112,7 @@ fn put_line<K: Sink>(sink: &mut K, graph: &Graph, line: &Line) -> Result<(), Wri
     put_bytes(sink, line.name.bytes())?;
     put_bytes(sink, b" =")?;
     put_verb(sink, graph, &line.verb)?;
-    put_on(sink, graph, line.on)?;
+    put_on(sink, graph, &line.on)?;
     put_bytes(sink, b"\n")
 }
 

@@ -25,10 +25,10 @@ pub fn filled<T: Copy>(alloc: Global, item: T, count: usize) -> Result<Vec<T>, N
     ensures each { IfOk result (λ v. (i : ℕ) → slice_index_or v.items i item ≡ item) }
 {
     let mut items = with_room(alloc, count)?;
-    for _turn in 0..count {
-        push_within(&mut items, item);
+    match items.resize(count, item) {
+        Ok(()) => Ok(items),
+        Err(_) => Err(NoMemory),
     }
-    Ok(items)
 }
 
 /// Makes room for so many more items.

@@ -13,7 +13,7 @@ use Rattle.line_forms.specs.declared.form.TheConstants.{FORMS}
 use Rattle.line_forms.specs.declared.vocabulary.Vocabulary.{Vocabulary}
 use Rattle.line_forms.specs.declared.vocabulary.Vocabulary.TheVariants.{Starts, Verbs, Kernels}
 use Rattle.line_forms.specs.Blanks.{ends_with_return, blank_in, blank_text}
-use Rattle.line_forms.specs.Forms.{form_text, form_words, takes_on, followed, is_told}
+use Rattle.line_forms.specs.Forms.{form_words, takes_on, takes_several, shown_front, shown_end, followed, is_told}
 use Rattle.line_forms.specs.Columns.{repeated_text}
 use Rattle.line_forms.specs.Files.{first_text, rest_text}
 use Rattle.line_forms.specs.Hint.{are_events, merge_hint}
@@ -26,9 +26,9 @@ leave_text ws n =
     cond (nat_lt n (length ws)) (concat (codes "the line leaves it at word " ∷ decimal (n + 1) ∷ codes ": " ∷ slice_index_or ws n [] ∷ codes "\n" ∷ []))
     (concat (codes "the line ends before word " ∷ decimal (n + 1) ∷ codes " of it\n" ∷ []))
 
--- a second event stands behind the whole form, and nothing that names none
-abbrev pub several_text : Form → List (List ℕ) → ℕ → List ℕ
-several_text f ws n = cond (takes_on f && (n == form_words f && (nat_lt n (length ws) && are_events ws n))) (merge_hint f ws n) []
+-- a second event stands behind the whole form, of which the format takes one, and nothing that names none
+abbrev pub several_text : Format → Form → List (List ℕ) → ℕ → List ℕ
+several_text format f ws n = cond ((takes_on f && not (takes_several format f)) && (n == form_words f && (nat_lt n (length ws) && are_events ws n))) (merge_hint f ws n) []
 
 -- what is told of the word at which it leaves the form, where there is one
 abbrev pub left_at : Format → Form → List (List ℕ) → ℕ → List ℕ
@@ -36,7 +36,7 @@ left_at format f ws n = cond (nat_lt n (length ws)) (left_text format f n (slice
 
 -- a form, of which a line has the first n words
 abbrev pub told_at : Format → Form → List (List ℕ) → ℕ → List ℕ
-told_at format f ws n = concat (codes "the form is: " ∷ form_text f ∷ codes "\n" ∷ []) ++ (leave_text ws n ++ (left_at format f ws n ++ several_text f ws n))
+told_at format f ws n = concat (codes "the form is: " ∷ shown_front format f ∷ shown_end format f ∷ []) ++ (leave_text ws n ++ (left_at format f ws n ++ several_text format f ws n))
 
 -- that of the line's verb or kernel
 abbrev pub told_text : Format → List (List ℕ) → Form → List ℕ

@@ -1,14 +1,14 @@
 -- The forms of lines, and where a line leaves one.
-use Rattle.std.specs.Prelude.{ℕ, ◌+◌, ◌==◌, nat_le, Bool, true, false, cond, ◌&&◌, ◌||◌, List, [], ◌∷◌, length, codes}
+use Rattle.std.specs.Prelude.{ℕ, ◌+◌, ◌-◌, ◌==◌, nat_le, Bool, true, false, cond, ◌&&◌, ◌||◌, List, [], ◌∷◌, length, take, codes}
 use Rattle.std.specs.Str.{bytes_eq}
 use Rattle.graph_terms.specs.declared.format.Format.{Format}
-use Rattle.graph_terms.specs.declared.format.Format.TheVariants.{One, Two}
+use Rattle.graph_terms.specs.declared.format.Format.TheVariants.{One, Two, Three}
 use Rattle.graph_words.specs.Words.{pieces}
 use Rattle.graph_terms.specs.Format.{has_since}
 use Rattle.line_forms.specs.declared.form.Form.{Form}
 use Rattle.line_forms.specs.declared.form.Form.TheVariants as forms
 
--- the forms: a word in capitals stands for any word of its kind, and what stands in brackets may be left out
+-- the forms of formats 1 and 2: a word in capitals stands for any word of its kind, and what stands in brackets may be left out
 abbrev pub form_text : Form → List ℕ
 form_text forms.Space = codes "space NAME INTERVALS"
 form_text forms.Inst = codes "inst NAME SPACE FIELDS"
@@ -105,6 +105,17 @@ abbrev pub takes_many : Form → Bool
 takes_many forms.Merge = true
 takes_many forms.MergeIgnore = true
 takes_many _ = false
+
+-- whether several events may stand at its end behind `on`, which format 3 brought
+abbrev pub takes_several : Format → Form → Bool
+takes_several format f = has_since Three format && takes_on f
+
+-- the form as a format has it, where more events may stand behind one: but for its end, and its end
+abbrev pub shown_front : Format → Form → List ℕ
+shown_front format f = cond (takes_several format f) (take (length (form_text f) - 1) (form_text f)) (form_text f)
+
+abbrev pub shown_end : Format → Form → List ℕ
+shown_end format f = cond (takes_several format f) (codes " ...]\n") (codes "\n")
 
 -- the form is one of the format, and that of the line's verb or kernel
 abbrev pub is_told : Format → Form → ℕ → Bool

@@ -1,10 +1,10 @@
 //! What is told of a line that is refused for its form.
 
-ghost use Rattle.std.specs.Prelude.{◌≡◌, ◌≤◌, ◌&&◌, ◌++◌, [], length, codes, IfOk, OnOk};
+ghost use Rattle.std.specs.Prelude.{◌≡◌, ◌≤◌, not, ◌&&◌, ◌++◌, [], length, codes, IfOk, OnOk};
 ghost use Rattle.std.specs.List.{slice_index_or};
 ghost use Rattle.std.specs.Str.{bytes_eq};
 ghost use Rattle.basics.specs.Words.{contents};
-ghost use Rattle.line_forms.specs.Forms.{form_words};
+ghost use Rattle.line_forms.specs.Forms.{form_words, takes_on, takes_several};
 ghost use Rattle.line_forms.specs.Advice.{leave_text, several_text, told_at, told_text, told_texts, is_operation, begins_declaration, is_declared, vocabulary_of, key_place, where_text, is_verb, is_kernel, moved_text, has_sign, joined_text, left_at, unknown_text, forms_text, words_text, syntax_text, header_text, reason_text, advice};
 
 use crate::blanks::{Blank, blank_in, blank_text, ends_with_return};
@@ -180,10 +180,17 @@ fn put_told_at(
     requires within { n ≤ length words.now }
     ensures { OnOk result (out.new.items ≡ out.old.items ++ told_at format form (contents words.now) n) }
 {
-    put_all(out, &[b"the form is: ", form.text(), b"\n"])?;
+    put_all(
+        out,
+        &[
+            b"the form is: ",
+            form.shown_front(format),
+            form.shown_end(format),
+        ],
+    )?;
     put_leave(out, words, n)?;
     put_left(out, format, form, words, n)?;
-    put_several(out, form, words, n, all)
+    put_several(out, format, form, words, n, all)
 }
 
 /// Puts what is told of the word at which a line leaves the form, where there is one.
@@ -202,21 +209,29 @@ fn put_left(
     Ok(())
 }
 
-/// Puts the lines to write where a second event stands behind a whole form.
+/// Puts the lines to write where a second event stands behind a whole form, of which the format takes one.
 fn put_several(
     out: &mut Vec<u8>,
+    format: Format,
     form: Form,
     words: &[&[u8]],
     n: usize,
     all: usize,
 ) -> Result<(), NoMemory>
     requires { all ≡ form_words form }
-    ensures { OnOk result (out.new.items ≡ out.old.items ++ several_text form (contents words.now) n) }
+    ensures { OnOk result (out.new.items ≡ out.old.items ++ several_text format form (contents words.now) n) }
 {
-    if form.takes_on() && (n == all && (has_word(words, n) && are_events(words, n))) {
+    if takes_one(format, form) && (n == all && (has_word(words, n) && are_events(words, n))) {
         return put_merge_hint(out, form, words, n);
     }
     Ok(())
+}
+
+/// Whether the form takes one event behind `on`.
+fn takes_one(format: Format, form: Form) -> bool
+    ensures { result ≡ (takes_on form && not (takes_several format form)) }
+{
+    form.takes_on() && !form.takes_several(format)
 }
 
 /// Puts the word at which a line leaves a form, by its number from 0.

@@ -79,6 +79,7 @@ pub(crate) fn begins_comment(line: &[u8]) -> bool
     }
 }
 
+/// Whether a line has a tab.
 pub fn has_tab(line: &[u8]) -> bool
     ensures { result ≡ has_tab line.now }
 {

@@ -65,10 +65,10 @@ pub const FORMS: [Form; 26] = [
 
 impl Form {
     ghost use Rattle.std.specs.Prelude.{◌≡◌};
-    ghost use Rattle.line_forms.specs.Forms.{form_text, form_since, key_words, takes_on, takes_many};
+    ghost use Rattle.line_forms.specs.Forms.{form_text, form_since, key_words, takes_on, takes_several, shown_front, shown_end, takes_many};
 
-    /// The form as docs/LANGUAGE.md writes it: a word in capitals stands for any word of its kind, and
-    /// what stands in brackets may be left out.
+    /// The form in formats 1 and 2, as docs/LANGUAGE.md writes it: a word in capitals stands for any
+    /// word of its kind, and what stands in brackets may be left out.
     pub fn text(self) -> &'static [u8]
         ensures { result.now ≡ form_text self }
     {
@@ -144,6 +144,36 @@ impl Form {
             | Form::MergeIgnore
             | Form::Phase => false,
             _ => true,
+        }
+    }
+
+    /// Whether several events may stand at its end behind `on`, which format 3 brought.
+    pub fn takes_several(self, format: Format) -> bool
+        ensures { result ≡ takes_several format self }
+    {
+        format.has_since(Format::Three) && self.takes_on()
+    }
+
+    /// The form as a format has it, where more events may stand behind one, but for its end.
+    pub(crate) fn shown_front(self, format: Format) -> &'static [u8]
+        ensures { result.now ≡ shown_front format self }
+    {
+        let text = self.text();
+        if self.takes_several(format) {
+            &text[..text.len().saturating_sub(1)]
+        } else {
+            text
+        }
+    }
+
+    /// Its end.
+    pub(crate) fn shown_end(self, format: Format) -> &'static [u8]
+        ensures { result.now ≡ shown_end format self }
+    {
+        if self.takes_several(format) {
+            b" ...]\n"
+        } else {
+            b"\n"
         }
     }
 

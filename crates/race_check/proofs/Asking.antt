@@ -12,7 +12,7 @@ use Rattle.graph_terms.specs.Access.{accesses, is_read, modes_clash, Conflict}
 use Rattle.race_sweeps.specs.Marks.{bit_in}
 use Rattle.race_sweeps.proofs.Bits.{or_old, or_new}
 use Rattle.race_check.specs.Races.{AreAsked, IsAsked}
-use Rattle.race_check.specs.declared.asked.Asked.{Asked}
+use Rattle.race_check.specs.declared.block_conflicts.Asked.{Asked}
 
 -- what clashes with a read changes the column
 pub clash_changes : (m : Mode) → IsTrue (modes_clash m Read) → is_read m ≡ false

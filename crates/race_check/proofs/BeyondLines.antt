@@ -11,7 +11,7 @@ use Rattle.graph_meaning.specs.Path.{HasPath}
 use Rattle.graph_meaning.specs.Rules.{ReleasedAt, SectionAt, DescendsAt, ReleaseFaultAt, RaceAt}
 use Rattle.graph_meaning.proofs.Public.{path_below}
 use Rattle.graph_terms.proofs.Public.{passes_below}
-use Rattle.race_check.specs.Paths.{EdgesBetween}
+use Rattle.cycle_search.specs.Paths.{EdgesBetween}
 
 line_there : (ls : List Line) (i : ℕ) (l : Line) → slice_get ls i ≡ Some l → i < length ls
 line_there [] i l h = absurd (none-some l h)

@@ -18,7 +18,7 @@ use Rattle.section_sweeps.specs.Group.{AreOwn}
 use Rattle.section_sweeps.specs.Passing.{AreFromBefore, AreFromBehind, ArePassedUp, ArePassedDown, IsSized}
 use Rattle.section_sweeps.specs.Table.{IsTable}
 use Rattle.section_sweeps.specs.declared.passing.Passing.{Passing}
-use Rattle.section_sweeps.specs.declared.table.Table.{Table}
+use Rattle.section_sweeps.specs.declared.lookups.Table.{Table}
 use Rattle.race_check.specs.Blocks.{AreListed, ArePassedOn, ArePassedBack, HoldsIn, FailsFirstIn, IsLeast, IsLowest, NoneLow, IsFirstIn}
 use Rattle.race_check.proofs.RuleFacts.{releases_acquire}
 

@@ -11,7 +11,7 @@ use Rattle.graph_meaning.specs.Rules.{Section, SectionAt, DescendsAt, Everywhere
 use Rattle.graph_terms.specs.Reservations.{both_shared}
 use Rattle.graph_meaning.proofs.Public.{path_append}
 use Rattle.graph_terms.proofs.Public.{acquired_lock_known}
-use Rattle.race_sweeps.specs.declared.held.Held.{Held}
+use Rattle.race_sweeps.specs.declared.line_sections.Held.{Held}
 use Rattle.race_sweeps.specs.Held.{Exclude, IsHeld, IsHeldRow}
 use Rattle.race_check.specs.Summaries.{AreAlone, ApartIn}
 

@@ -5,6 +5,8 @@ use Rattle.std.proofs.lemmas.List.{get_or_past}
 use Rattle.graph_terms.specs.Graph.{GraphValue}
 use Rattle.graph_meaning.specs.Rules.{Everywhere, EverywhereTwice, RaceAt}
 use Rattle.race_sweeps.specs.Settled.{AreEnough, IsSettled, is_noted}
+use Rattle.race_sweeps.proofs.Settling.{settled_back}
+use Rattle.race_check.proofs.BeyondLines.{settled_beyond}
 
 pub noted_below : (racing : List Bool) (n r : ℕ) → length racing ≡ n → is_noted racing r ≡ true → r < n
 noted_below racing n r size noted = elim (cases_lt r n) [
@@ -28,3 +30,21 @@ free_more g racing first old new few before here k r low end noted = elim (cases
 
 pub free_block : (g : GraphValue) (racing : List Bool) (first n : ℕ) → ((k b : ℕ) → k < n → b < 64 → is_noted racing (first + b) ≡ true → IsSettled g (first + b) k) → (k r : ℕ) → k < n → first ≤ r → r < first + 64 → is_noted racing r ≡ true → IsSettled g r k
 free_block g racing first n settled k r low begins ends = subst (λ z. is_noted racing z ≡ true → IsSettled g z k) (let e : first + (r - first) ≡ r = omega arith in e) (settled k (r - first) low (omega arith))
+
+-- and the other way round: where lines are settled with each line that is noted
+pub free_of_more : (g : GraphValue) (racing : List Bool) (first few : ℕ) → ((k r : ℕ) → k < first → r < length g.lines → is_noted racing r ≡ true → IsSettled g k r)
+    → ((b r : ℕ) → b < few → r < length g.lines → is_noted racing r ≡ true → IsSettled g (first + b) r) → (k r : ℕ) → k < first + few → r < length g.lines → is_noted racing r ≡ true → IsSettled g k r
+free_of_more g racing first few before here k r low there noted = elim (cases_lt k first) [
+  | inl l ↦ before k r l there noted
+  | inr up ↦ subst (λ z. IsSettled g z r) (let e : first + (k - first) ≡ k = omega arith in e) (here (k - first) r (omega arith) there noted)
+]
+
+pub all_free_of : (g : GraphValue) (racing : List Bool) (k : ℕ) → length racing ≡ length g.lines → AreEnough g racing → ((r : ℕ) → r < length g.lines → is_noted racing r ≡ true → IsSettled g k r) → Everywhere (RaceAt g k)
+all_free_of g racing k size enough settled = all_free g racing (length g.lines) k size enough (λ r low noted. settled_back g k r (settled r low noted))
+
+-- where all lines are free
+pub all_lines_free : (g : GraphValue) (n : ℕ) → length g.lines ≤ n → ((k : ℕ) → k < n → Everywhere (RaceAt g k)) → EverywhereTwice (RaceAt g)
+all_lines_free g n all free k = elim (cases_lt k n) [
+  | inl low ↦ free k low
+  | inr up ↦ (λ j below. settled_beyond g k j (omega arith))
+]

@@ -17,7 +17,7 @@ use Rattle.graph_terms.specs.Reservations.{Acquires, Releases}
 use Rattle.graph_meaning.specs.Need.{places, rivals, acquires_after, release_edges, need_edges, Precedes, IsHigh}
 use Rattle.basics.proofs.ListFacts.{contains_none, contains_cases, contains_here, contains_there, map_contains, contains_map, contains_below}
 use Rattle.graph_meaning.proofs.Public.{path_append, along_path, path_below}
-use Rattle.race_check.specs.Paths.{EdgesBetween}
+use Rattle.cycle_search.specs.Paths.{EdgesBetween}
 use Rattle.race_check.specs.High.{weight_of, IsFlooded, IsFlooding}
 use Rattle.graph_terms.proofs.Public.{acquire_is, release_is, is_acquire_from, is_release_from, passes_below}
 

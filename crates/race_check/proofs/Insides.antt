@@ -18,7 +18,7 @@ use Rattle.race_sweeps.proofs.Bits.{bit_in-and, bit_in-or, bit_in-not, or_old, o
 use Rattle.race_sweeps.proofs.Walking.{none_left}
 use Rattle.section_sweeps.specs.Passing.{HasBit, HasEither, bits_at}
 use Rattle.section_sweeps.proofs.PassingSteps.{either_cases, either_own, either_passed}
-use Rattle.race_check.specs.Paths.{EdgesBetween}
+use Rattle.cycle_search.specs.Paths.{EdgesBetween}
 use Rattle.race_check.specs.Blocks.{IsLowest, NoneLow}
 use Rattle.race_check.specs.Inside.{IsBetween, IsInside, AreBetween, AreSides, AreOutside, MayCome}
 use Rattle.race_check.specs.declared.inside.Inside.{Inside}

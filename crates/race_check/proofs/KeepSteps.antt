@@ -10,7 +10,7 @@ use Rattle.graph_terms.specs.Reservations.{Acquires}
 use Rattle.graph_meaning.specs.Rules.{Section}
 use Rattle.graph_terms.proofs.Public.{passes_below}
 use Rattle.race_sweeps.specs.Marks.{bit_in}
-use Rattle.race_sweeps.specs.declared.held.Held.{Held}
+use Rattle.race_sweeps.specs.declared.line_sections.Held.{Held}
 use Rattle.race_sweeps.specs.Held.{IsHeld}
 use Rattle.section_sweeps.specs.Sections.{AreHeldSoFar, IsGrown, IsKept}
 use Rattle.race_check.specs.Inside.{AreBetween, IsBetween}

@@ -3,10 +3,6 @@ pub mod NeedLaws
 pub mod RuleFacts
 pub mod BeyondLines
 pub mod HighFlood
-pub mod PathRows
-pub mod Sorting
-pub mod OrderLoops
-pub mod Searching
 pub mod ExemptSummary
 pub mod ReservationFacts
 pub mod FloodMarks
@@ -17,7 +13,6 @@ pub mod RaceSteps
 pub mod Freeing
 pub mod Doubting
 pub mod Placing
-pub mod Numbering
 pub mod BlockSteps
 pub mod Insides
 pub mod AccessSteps

@@ -7,10 +7,10 @@ use Rattle.std.proofs.lemmas.List.Elements.{Contains-get_or}
 use Rattle.graph_terms.specs.Graph.{GraphValue}
 use Rattle.graph_meaning.specs.Rules.{NoCycleAt, Everywhere}
 use Rattle.race_sweeps.specs.Placed.{IsOrder}
-use Rattle.race_check.specs.Paths.{EdgesBetween}
+use Rattle.cycle_search.specs.Paths.{EdgesBetween}
 use Rattle.basics.specs.Lists.{count_below}
-use Rattle.race_check.specs.Order.{IsOrdered, is_in}
-use Rattle.race_check.proofs.Sorting.{all_listed, in_contains, contains_take}
+use Rattle.cycle_search.specs.Order.{IsOrdered, is_in}
+use Rattle.cycle_search.proofs.Sorting.{all_listed, in_contains, contains_take}
 
 pub order_placed : (g : GraphValue) → EdgesBetween g → (order left : List ℕ) → IsOrdered g order left → Everywhere (NoCycleAt g) → IsOrder g order
 order_placed g between order left o acyclic = record {

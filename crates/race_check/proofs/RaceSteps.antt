@@ -18,7 +18,7 @@ use Rattle.race_sweeps.specs.Clash.{LinesClash}
 use Rattle.race_sweeps.specs.Marks.{bit_in}
 use Rattle.race_sweeps.specs.Settled.{IsSettled}
 use Rattle.race_sweeps.proofs.Bits.{bit_in-and, bit_in-or, bit_in-not, or_old, or_new}
-use Rattle.race_check.specs.Paths.{EdgesBetween}
+use Rattle.cycle_search.specs.Paths.{EdgesBetween}
 use Rattle.race_check.specs.Races.{IsRivals, IsSuspects}
 use Rattle.race_check.specs.Summaries.{ApartIn}
 use Rattle.race_check.specs.declared.races.Rivals.{Rivals}

@@ -6,10 +6,9 @@ use Rattle.std.proofs.lemmas.Option.{none-some, same_Some}
 use Rattle.std.proofs.lemmas.List.Elements.{Contains-append_right}
 use Rattle.graph_terms.specs.declared.verb.Line.{Line}
 use Rattle.graph_terms.specs.Graph.{GraphValue, line_passes, is_merge_ignore, is_release_of}
-use Rattle.graph_terms.specs.Fits.{IsGraph, on_lines, named_lines}
+use Rattle.graph_terms.specs.Fits.{IsGraph, named_lines}
 use Rattle.graph_terms.specs.Reservations.{Acquires, Releases}
-use Rattle.graph_meaning.specs.Rules.{ReleasedAt, ReleaseFaultAt, Everywhere}
-use Rattle.basics.proofs.ListFacts.{contains_here}
+use Rattle.graph_meaning.specs.Rules.{ReleasedAt, ReleaseFaultAt, Everywhere, stands_on_merges}
 use Rattle.section_sweeps.specs.Releases.{release_in, AreReleases}
 use Rattle.graph_terms.proofs.Public.{release_of_is, release_is, is_release_from, passes_below, named_below}
 use Rattle.section_sweeps.proofs.ReservationFacts.{verb_of}
@@ -52,27 +51,18 @@ release_verb g i q l rel at = ap (is_release_of q) (same_Some l.verb (Release q)
 releases_of : (g : GraphValue) (i q : ℕ) (l : Line) → slice_get g.lines i ≡ Some l → is_release_of q l.verb ≡ true → Releases g i q
 releases_of g i q l at r = is_release_from g i q (verb_of g i l at ∙ ap Some (release_of_is q l.verb r))
 
-pub stands_none : (g : GraphValue) (i : ℕ) → ((q : ℕ) → Releases g i q → ⊥) → IsTrue true ↔ ReleaseFaultAt g i
-stands_none g i none = ((λ h q l at r. absurd (none q (releases_of g i q l at r))), (λ r. refl))
+pub faultless_none : (g : GraphValue) (i : ℕ) → ((q : ℕ) → Releases g i q → ⊥) → IsTrue true ↔ ReleaseFaultAt g i
+faultless_none g i none = ((λ h q l at r. absurd (none q (releases_of g i q l at r))), (λ r. refl))
 
-pub stands_by : (g : GraphValue) (i q m : ℕ) (l : Line) (b : Bool) → Releases g i q → slice_get g.lines i ≡ Some l → l.on ≡ Some m → b ≡ line_passes is_merge_ignore g m → IsTrue b ↔ ReleaseFaultAt g i
-stands_by g i q m l b rel at on is = (
-  (λ h p k e r. (m, ap (λ (x : Line). x.on) (same_Some k l (sym e ∙ at)) ∙ on, sym is ∙ h)),
-  (λ rule. (let k = rule q l at (release_verb g i q l rel at) in
-      let same : m ≡ k.0 = same_Some m k.0 (sym on ∙ k.1) in
-      is ∙ subst (λ z. line_passes is_merge_ignore g z ≡ true) (sym same) k.2)),
+pub faultless_by : (g : GraphValue) (i q : ℕ) (l : Line) (on : List ℕ) (b : Bool) → Releases g i q → slice_get g.lines i ≡ Some l → on ≡ l.on → b ≡ stands_on_merges g on → IsTrue b ↔ ReleaseFaultAt g i
+faultless_by g i q l on b rel at same is = (
+  (λ h p k e r. ap (λ (x : Line). stands_on_merges g x.on) (same_Some k l (sym e ∙ at)) ∙ (ap (stands_on_merges g) (sym same) ∙ (sym is ∙ h))),
+  (λ rule. is ∙ (ap (stands_on_merges g) same ∙ rule q l at (release_verb g i q l rel at))),
 )
 
-pub stands_on_none : (g : GraphValue) (i q : ℕ) (l : Line) → Releases g i q → slice_get g.lines i ≡ Some l → l.on ≡ None → IsTrue false ↔ ReleaseFaultAt g i
-stands_on_none g i q l rel at on = (
-  (λ h. absurd (true≢false (sym h))),
-  (λ rule. (let k = rule q l at (release_verb g i q l rel at) in absurd (none-some k.0 (sym on ∙ k.1)))),
-)
-
--- what a line stands on is a line
-pub on_known : (g : GraphValue) → IsGraph g → (i m : ℕ) (l : Line) → i < length g.lines → slice_get g.lines i ≡ Some l → l.on ≡ Some m → m < length g.lines
-on_known g f i m l below at on =
-    let c = cut_at g.format g.decls [] g.lines f.lines i l at in
-    let b : m < length c.0 = named_below (record { format = g.format; decls = g.decls; lines = c.0 }) l c.2.fits m
-    (Contains-append_right (named_lines l.verb) (on_lines l.on) m (subst (λ o. Contains (on_lines o) m) (sym on) (contains_here m []))) in
-    let size : length c.0 ≡ 0 + i = c.3 in omega arith
+-- what a line stands on are lines
+pub on_known : (g : GraphValue) → IsGraph g → (i : ℕ) (l : Line) (on : List ℕ) → i < length g.lines → slice_get g.lines i ≡ Some l → on ≡ l.on → (m : ℕ) → Contains on m → m < length g.lines
+on_known g f i l on below at same m c =
+    let b = cut_at g.format g.decls [] g.lines f.lines i l at in
+    let k : m < length b.0 = named_below (record { format = g.format; decls = g.decls; lines = b.0 }) l b.2.fits m (Contains-append_right (named_lines l.verb) l.on m (subst (λ xs. Contains xs m) same c)) in
+    let size : length b.0 ≡ 0 + i = b.3 in omega arith

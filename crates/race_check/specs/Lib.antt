@@ -1,6 +1,3 @@
-pub mod Paths
-pub mod Order
-pub mod Search
 pub mod Refusal
 pub mod High
 pub mod Sweep

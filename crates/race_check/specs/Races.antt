@@ -10,7 +10,7 @@ use Rattle.race_sweeps.specs.Marks.{bit_in}
 use Rattle.race_sweeps.specs.Settled.{IsSettled}
 use Rattle.section_sweeps.specs.Passing.{HasBit}
 use Rattle.race_check.specs.Blocks.{ArePassedOn, ArePassedBack}
-use Rattle.race_check.specs.declared.asked.Asked.{Asked}
+use Rattle.race_check.specs.declared.block_conflicts.Asked.{Asked}
 use Rattle.race_check.specs.declared.races.Rivals.{Rivals}
 
 -- two lists have accesses that clash

@@ -10,9 +10,9 @@ ghost use Rattle.section_sweeps.specs.Table.{IsTable};
 use graph_model::graph::Graph;
 use index_spaces::NoMemory;
 use index_spaces::room::push;
+use section_sweeps::lookups::Table;
 use section_sweeps::passing::has_bit;
 use section_sweeps::reservations::released;
-use section_sweeps::table::Table;
 use std::alloc::Global;
 
 /// The lines of a block.

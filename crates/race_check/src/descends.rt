@@ -13,9 +13,9 @@ use crate::races::is_any_noted;
 use graph_meaning::laws::edges_between_lines;
 use graph_model::graph::Graph;
 use index_spaces::NoMemory;
+use section_sweeps::lookups::Table;
 use section_sweeps::passing::has_bit;
 use section_sweeps::reservations::acquired;
-use section_sweeps::table::Table;
 use std::alloc::Global;
 
 /// The least acquire and the least acquire in its section whose reservation is not declared later;

@@ -9,8 +9,8 @@ use graph_meaning::laws::edges_between_lines;
 use graph_model::graph::Graph;
 use index_spaces::NoMemory;
 use section_sweeps::blocks::{passed_back, passed_forward};
+use section_sweeps::lookups::Table;
 use section_sweeps::passing::Passing;
-use section_sweeps::table::Table;
 use std::alloc::Global;
 
 /// Of 64 lines from a first one on: which of them have a path to a line, and to the releases of

@@ -10,21 +10,21 @@ ghost use Rattle.section_sweeps.specs.Sections.{AreSections};
 ghost use Rattle.section_sweeps.specs.Table.{IsTable};
 
 use crate::checked::CheckRefusal;
-use crate::cycle::first_cycle;
 use crate::descends::first_climbing;
-use crate::keeping::sections_of_lines;
+use crate::line_sections::sections_of_lines;
 use crate::need::need_of;
-use crate::order::Order;
 use crate::races::first_race;
 use crate::release_faults::first_release_fault;
 use crate::releases::first_unreleased;
 use crate::sections::first_outside;
+use cycle_search::cycle::first_cycle;
+use cycle_search::order::Order;
 use graph_meaning::laws::edges_between_lines;
 use graph_model::graph::Graph;
-use race_sweeps::held::Held;
-use section_sweeps::found::Sections;
+use race_sweeps::line_sections::Held;
+use section_sweeps::found_sections::Sections;
 use section_sweeps::held_sections;
-use section_sweeps::table::Table;
+use section_sweeps::lookups::Table;
 use std::alloc::Global;
 
 /// The need of a graph that is accepted, and otherwise the first rule that fails with the least

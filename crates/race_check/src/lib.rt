@@ -1,19 +1,17 @@
 //! The check of a graph: accepted, or refused by the first of six rules that fails.
 #![tactic(auto)]
 
-mod apart;
-mod asked;
+mod block_conflicts;
 mod blocks;
 pub mod checked;
+mod common_sections;
 mod conflicts;
-mod cycle;
 mod descends;
-mod high;
+mod high_numbers;
 mod inside;
 mod judge;
-mod keeping;
+mod line_sections;
 mod need;
-mod order;
 mod races;
 mod release_faults;
 mod releases;
@@ -60,8 +58,8 @@ pub fn need_line(alloc: Global, checked: &Checked) -> Result<Option<u32>, NoMemo
     need_line_of(alloc, checked.graph(), need)
 }
 
-/// The accepted graph in format 2, which is accepted too, with the same need and the same outcome.
-/// It takes no memory.
+/// The accepted graph in format 2, or in format 3 where it has that: it is accepted too, with the
+/// same need and the same outcome. It takes no memory.
 pub fn upgrade_checked(checked: Checked) -> Checked
     ensures graph { result.graph ≡ upgraded checked.graph }
     ensures accepted { Accepted result.graph }

@@ -5,7 +5,7 @@ ghost use Rattle.graph_meaning.specs.Need.{IsNeed};
 ghost use Rattle.race_check.specs.NeedLine.{IsNeedLine};
 ghost use Rattle.race_check.specs.Sweep.{IsTally, IsTallyOf, IsTallyFor, IsFirstOpen, most_open, open_after};
 
-use crate::high::high_numbers;
+use crate::high_numbers::high_numbers;
 use graph_meaning::laws::{edges_between_lines, needs_are_one};
 use graph_model::graph::Graph;
 use graph_terms::limits::MAX_LINES;

@@ -11,19 +11,19 @@ ghost use Rattle.race_sweeps.specs.Placed.{IsOrder};
 ghost use Rattle.race_sweeps.specs.Settled.{AreEnough, IsSettled, is_noted};
 ghost use Rattle.section_sweeps.specs.Table.{IsTable};
 
-use crate::apart::are_apart;
-use crate::asked::Asked;
+use crate::block_conflicts::Asked;
 use crate::blocks::lines_from;
+use crate::common_sections::are_apart;
 use crate::conflicts::{accesses_of_lines, lines_clash};
 use graph_meaning::laws::edges_between_lines;
 use graph_model::graph::Graph;
 use graph_terms::verb::Access;
 use index_spaces::NoMemory;
-use race_sweeps::held::Held;
+use race_sweeps::line_sections::Held;
 use race_sweeps::racing_lines;
 use section_sweeps::blocks::{passed_back, passed_forward};
+use section_sweeps::lookups::Table;
 use section_sweeps::passing::{Passing, has_bit};
-use section_sweeps::table::Table;
 use std::alloc::Global;
 
 /// The least line and the least line after it that conflict, have no path either way and are not
@@ -73,6 +73,9 @@ fn first_race_of(
     let accesses = accesses_of_lines(alloc, graph)?;
     let accesses = accesses.as_slice();
     let free = free_lines(alloc, graph, &table, accesses, held, racing, unnoted)?;
+    if free >= lines {
+        return Ok(None);
+    }
     let rival = first_rival(alloc, graph, &table, accesses, held, free)?;
     if let Some(other) = rival {
         return Ok(Some((free, other)));
@@ -94,18 +97,20 @@ fn unnoted_lines(racing: &[bool], lines: u32) -> u32
     lines
 }
 
-/// How many lines are noted.
-fn noted_lines(racing: &[bool], lines: u32) -> u32
-    requires { lines ≤ length racing.now }
-    ensures { result ≤ lines }
+/// How many blocks of 64 lines have a noted one.
+fn noted_blocks(graph: &Graph, racing: &[bool]) -> u32
+    requires { length racing.now ≡ length graph.now.lines }
 {
-    let mut noted = 0;
-    for line in 0..lines {
-        if racing[line as usize] {
-            noted += 1;
+    let lines = graph.lines();
+    let mut blocks = 0;
+    let mut first = 0;
+    while first < lines {
+        if is_any_noted(racing, first, lines.min(first + 64)) {
+            blocks += 1;
         }
+        first += 64;
     }
-    noted
+    blocks
 }
 
 /// Whether a line of these is noted.
@@ -121,8 +126,8 @@ pub(crate) fn is_any_noted(racing: &[bool], first: u32, end: u32) -> bool
     false
 }
 
-/// How many of so many lines, from the first on, race with none, by the lines that are noted; 0
-/// where these are many beside them.
+/// How many lines, from the first on, race with none, by the lines that are noted: in the blocks
+/// of these, where they are few beside the blocks above the first of them, else in all blocks.
 fn free_lines(
     alloc: Global,
     graph: &Graph,
@@ -139,13 +144,36 @@ fn free_lines(
     requires size { length racing.now ≡ length graph.now.lines }
     requires enough { AreEnough graph.now racing.now }
     requires most { most ≤ length graph.now.lines }
-    ensures few { IfOk result (λ n. n ≤ most) }
-    ensures free { IfOk result (λ n. (k : ℕ) → k < n → Everywhere (RaceAt graph.now k)) }
+    ensures { IfOk result (λ n. (k : ℕ) → k < n → Everywhere (RaceAt graph.now k)) }
+{
+    if noted_blocks(graph, racing) < most / 64 {
+        free_by_noted_blocks(alloc, graph, table, accesses, held, racing, most)
+    } else {
+        free_by_blocks(alloc, graph, table, accesses, held, racing)
+    }
+}
+
+/// How many of so many lines, from the first on, race with none, block by block of those that are
+/// noted.
+fn free_by_noted_blocks(
+    alloc: Global,
+    graph: &Graph,
+    table: &Table,
+    accesses: &[Vec<Access>],
+    held: &Held,
+    racing: &[bool],
+    most: u32,
+) -> Result<u32, NoMemory>
+    requires table { IsTable graph.now table.now }
+    requires accesses { AreAccesses graph.now accesses.now }
+    requires held { IsHeld graph.now held.now }
+    requires alone { AreAlone graph.now }
+    requires size { length racing.now ≡ length graph.now.lines }
+    requires enough { AreEnough graph.now racing.now }
+    requires most { most ≤ length graph.now.lines }
+    ensures { IfOk result (λ n. (k : ℕ) → k < n → Everywhere (RaceAt graph.now k)) }
 {
     let lines = graph.lines();
-    if most / 16 < noted_lines(racing, lines) {
-        return Ok(0);
-    }
     let mut free = most;
     let mut first = 0;
     while first < lines {
@@ -153,6 +181,36 @@ fn free_lines(
         first += 64;
     }
     Ok(free)
+}
+
+/// How many lines, from the first on, race with none, block by block up to one that does.
+fn free_by_blocks(
+    alloc: Global,
+    graph: &Graph,
+    table: &Table,
+    accesses: &[Vec<Access>],
+    held: &Held,
+    racing: &[bool],
+) -> Result<u32, NoMemory>
+    requires table { IsTable graph.now table.now }
+    requires accesses { AreAccesses graph.now accesses.now }
+    requires held { IsHeld graph.now held.now }
+    requires alone { AreAlone graph.now }
+    requires size { length racing.now ≡ length graph.now.lines }
+    requires enough { AreEnough graph.now racing.now }
+    ensures { IfOk result (λ n. (k : ℕ) → k < n → Everywhere (RaceAt graph.now k)) }
+{
+    let lines = graph.lines();
+    let mut first = 0;
+    while first < lines {
+        let rivals = Rivals::new(alloc, graph, table, first)?;
+        let free = rivals.free_of_noted(graph, accesses, held, racing);
+        if free < 64 {
+            return Ok(first + free);
+        }
+        first += 64;
+    }
+    Ok(lines)
 }
 
 /// The least line with which a line races, from that one on.
@@ -357,6 +415,65 @@ impl Rivals {
             }
         }
         free
+    }
+
+    /// How many lines of the block, from the first on, race with no noted line.
+    fn free_of_noted(
+        &self,
+        graph: &Graph,
+        accesses: &[Vec<Access>],
+        held: &Held,
+        racing: &[bool],
+    ) -> u32
+        requires size { length racing.now ≡ length graph.now.lines }
+        requires held { IsHeld graph.now held.now }
+        requires alone { AreAlone graph.now }
+        requires accesses { AreAccesses graph.now accesses.now }
+        requires rivals { IsRivals graph.now self.now }
+        ensures few { result ≤ 64 }
+        ensures settled { (b r : ℕ) → b < result → r < length graph.now.lines → is_noted racing.now r ≡ true → IsSettled graph.now (self.now.first + b) r }
+    {
+        let mut free = 64;
+        for line in 0..graph.lines() {
+            free = self.free_of(graph, accesses, held, racing, line, free);
+        }
+        free
+    }
+
+    /// How many of so many lines of the block, from the first on, do not race with a line, if it is
+    /// noted.
+    fn free_of(
+        &self,
+        graph: &Graph,
+        accesses: &[Vec<Access>],
+        held: &Held,
+        racing: &[bool],
+        line: u32,
+        most: u32,
+    ) -> u32
+        requires line { line < length graph.now.lines }
+        requires most { most ≤ 64 }
+        requires size { length racing.now ≡ length graph.now.lines }
+        requires held { IsHeld graph.now held.now }
+        requires alone { AreAlone graph.now }
+        requires accesses { AreAccesses graph.now accesses.now }
+        requires rivals { IsRivals graph.now self.now }
+        ensures few { result ≤ most }
+        ensures settled { is_noted racing.now line ≡ true → (b : ℕ) → b < result → IsSettled graph.now (self.now.first + b) line }
+    {
+        if !racing[line as usize] {
+            return most;
+        }
+        let suspects = self.suspects(graph, line);
+        if suspects == 0 {
+            return most;
+        }
+        for bit in 0..most {
+            if self.is_rival(graph, accesses, held, suspects, line, bit) {
+                return bit;
+            }
+        }
+        most
     }
 
     /// Whether a noted line of the block races with this one.

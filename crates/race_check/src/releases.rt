@@ -12,9 +12,9 @@ use graph_meaning::laws::edges_between_lines;
 use graph_model::graph::Graph;
 use index_spaces::NoMemory;
 use section_sweeps::blocks::passed_forward;
+use section_sweeps::lookups::Table;
 use section_sweeps::passing::{Passing, has_bit};
 use section_sweeps::reservations::acquired;
-use section_sweeps::table::Table;
 use std::alloc::Global;
 
 /// The least acquire that has no release with a path from it, 64 lines at a time.

@@ -18,9 +18,9 @@ use graph_model::graph::Graph;
 use graph_terms::verb::Verb;
 use index_spaces::NoMemory;
 use section_sweeps::blocks::{passed_back, passed_forward};
+use section_sweeps::lookups::Table;
 use section_sweeps::passing::Passing;
 use section_sweeps::reservations::released;
-use section_sweeps::table::Table;
 use std::alloc::Global;
 
 /// The least release and the least line that has a path to it and is neither its acquire, nor

@@ -6,7 +6,7 @@ use Rattle.std.specs.List.{slice_index_or}
 use Rattle.std.proofs.lemmas.Bool.{cases_lt}
 use Rattle.std.proofs.lemmas.Option.{same_Some, slice_get_read}
 use Rattle.race_sweeps.specs.declared.marks.Mark.{Mark}
-use Rattle.race_sweeps.specs.declared.table.Table.{Table}
+use Rattle.race_sweeps.specs.declared.lookups.Table.{Table}
 use Rattle.race_sweeps.specs.Classes.{IsNear, class_at}
 use Rattle.race_sweeps.specs.Guards.{AreGuarded}
 use Rattle.race_sweeps.specs.Marks.{IsMarked, bit_in}

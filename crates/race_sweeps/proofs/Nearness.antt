@@ -13,7 +13,7 @@ use Rattle.graph_terms.specs.declared.verb.Access.{Access}
 use Rattle.graph_terms.specs.Graph.{GraphValue, space_at}
 use Rattle.graph_terms.specs.Access.{AccessesConflict}
 use Rattle.basics.proofs.ListFacts.{got_contains, contains_none}
-use Rattle.race_sweeps.specs.declared.near.Spot.{Spot}
+use Rattle.race_sweeps.specs.declared.class_conflicts.Spot.{Spot}
 use Rattle.race_sweeps.specs.Classes.{IsNear, AreNear}
 use Rattle.race_sweeps.specs.Clash.{Clash}
 use Rattle.race_sweeps.specs.Spots.{IsSpot, AreSpots, IsUpTo, AreAscending, IsFar, AreLinked, AreLinkedTo, IsLinkedTo, AreGrown}

@@ -11,7 +11,7 @@ use Rattle.graph_meaning.specs.Rules.{Section, modes_commute}
 use Rattle.graph_terms.specs.Reservations.{both_shared}
 use Rattle.graph_terms.proofs.Public.{passes_below, acquired_lock_known}
 use Rattle.std.proofs.lemmas.Option.{none-some, slice_get_past}
-use Rattle.race_sweeps.specs.declared.held.Held.{Held}
+use Rattle.race_sweeps.specs.declared.line_sections.Held.{Held}
 use Rattle.race_sweeps.specs.Held.{IsHeld, IsHeldRow, LieApart, Exclude, acquire_in}
 use Rattle.race_sweeps.specs.Clash.{LinesClash}
 use Rattle.race_sweeps.specs.Settled.{IsSettled}

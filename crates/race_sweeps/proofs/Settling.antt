@@ -99,7 +99,7 @@ module _ (g : GraphValue) where
     ]
   ]
 
-  settled_back : (i j : ℕ) → IsSettled g i j → IsSettled g j i
+  pub settled_back : (i j : ℕ) → IsSettled g i j → IsSettled g j i
   settled_back i j settled c = elim (settled (lines_back g j i c)) [
     | inl path ↦ inr (inl path)
     | inr (inl back) ↦ inl back

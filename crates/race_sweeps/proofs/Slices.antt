@@ -8,7 +8,7 @@ use Rattle.graph_terms.specs.Graph.{GraphValue}
 use Rattle.graph_terms.specs.Access.{accesses, AccessesConflict, modes_clash}
 use Rattle.graph_meaning.specs.Rules.{modes_commute}
 use Rattle.race_sweeps.specs.declared.marks.Mark.{Mark}
-use Rattle.race_sweeps.specs.declared.table.Table.{Table}
+use Rattle.race_sweeps.specs.declared.lookups.Table.{Table}
 use Rattle.race_sweeps.specs.Classes.{class_at, key_of, AreClasses}
 use Rattle.race_sweeps.specs.Guards.{AreGuarded}
 use Rattle.race_sweeps.specs.Marks.{bit_in}

@@ -8,7 +8,7 @@ use Rattle.std.proofs.lemmas.Bool.{cases_lt, cases_eq, cases_Bool, and_from, not
 use Rattle.std.proofs.lemmas.Nat.Bits.{bit_at-zero}
 use Rattle.graph_terms.specs.Graph.{GraphValue}
 use Rattle.race_sweeps.specs.declared.marks.Mark.{Mark}
-use Rattle.race_sweeps.specs.declared.table.Table.{Table}
+use Rattle.race_sweeps.specs.declared.lookups.Table.{Table}
 use Rattle.race_sweeps.specs.Classes.{class_at}
 use Rattle.race_sweeps.specs.Marks.{bit_in}
 use Rattle.race_sweeps.specs.Members.{IsLastBelow}

@@ -3,7 +3,7 @@ use Rattle.std.specs.Prelude.{◌≡◌, ℕ, ◌+◌, ◌*◌, ◌/◌, ◌<◌
 use Rattle.graph_terms.specs.declared.verb.Access.{Access}
 use Rattle.graph_terms.specs.Graph.{GraphValue, line_passes, is_shared}
 use Rattle.graph_meaning.specs.Rules.{modes_commute}
-use Rattle.race_sweeps.specs.declared.held.Held.{Held}
+use Rattle.race_sweeps.specs.declared.line_sections.Held.{Held}
 use Rattle.race_sweeps.specs.Classes.{class_at}
 use Rattle.race_sweeps.specs.Held.{acquire_in, LieApart}
 

@@ -6,7 +6,7 @@ use Rattle.std.specs.Option.{option_map_or}
 use Rattle.graph_terms.specs.Graph.{GraphValue, locks}
 use Rattle.graph_meaning.specs.Rules.{Section}
 use Rattle.graph_terms.specs.Reservations.{both_shared}
-use Rattle.race_sweeps.specs.declared.held.Held.{Held}
+use Rattle.race_sweeps.specs.declared.line_sections.Held.{Held}
 
 -- where an acquire is kept the line lies in its section, and where none is kept it lies in no section of the reservation
 pub record IsHeldRow (g : GraphValue) (l : ℕ) (row : Vec (Option ℕ) Global) : Type 0 where

@@ -7,7 +7,7 @@ use Rattle.graph_terms.specs.Graph.{GraphValue}
 use Rattle.graph_terms.specs.Access.{accesses, is_reduction, AccessesConflict}
 use Rattle.graph_meaning.specs.Rules.{Section, modes_commute}
 use Rattle.race_sweeps.specs.declared.marks.Mark.{Mark}
-use Rattle.race_sweeps.specs.declared.table.Table.{Table}
+use Rattle.race_sweeps.specs.declared.lookups.Table.{Table}
 use Rattle.race_sweeps.specs.Classes.{class_at, IsNear}
 use Rattle.race_sweeps.specs.Guards.{AreGuarded}
 use Rattle.race_sweeps.specs.Held.{LieApart}

@@ -4,7 +4,7 @@ use Rattle.graph_terms.specs.Graph.{GraphValue}
 use Rattle.race_sweeps.specs.declared.marks.Mark.{Mark}
 use Rattle.race_sweeps.specs.declared.members.Members.{Members}
 use Rattle.race_sweeps.specs.declared.scan.Scan.{Scan}
-use Rattle.race_sweeps.specs.declared.table.Table.{Table}
+use Rattle.race_sweeps.specs.declared.lookups.Table.{Table}
 use Rattle.race_sweeps.specs.Classes.{class_at}
 use Rattle.race_sweeps.specs.Marks.{IsMarked}
 use Rattle.race_sweeps.specs.Members.{AreMembers}

@@ -6,7 +6,7 @@ use Rattle.graph_terms.specs.declared.verb.Access.{Access}
 use Rattle.graph_terms.specs.Graph.{GraphValue, space_at, named_spaces}
 use Rattle.graph_terms.specs.Access.{AccessesConflict}
 use Rattle.race_sweeps.specs.Classes.{IsNear}
-use Rattle.race_sweeps.specs.declared.near.Spot.{Spot}
+use Rattle.race_sweeps.specs.declared.class_conflicts.Spot.{Spot}
 
 -- the points of a space lie from `low` to `high`
 abbrev pub IsSpan : List (ℕ × ℕ) → ℕ → ℕ → Type 0

@@ -3,7 +3,7 @@ use Rattle.graph_terms.specs.Graph.{GraphValue}
 use Rattle.race_sweeps.specs.Placed.{IsPlaced, ArePlaces}
 use Rattle.race_sweeps.specs.Classes.{AreClasses, AreNear}
 use Rattle.race_sweeps.specs.Guards.{AreGuards}
-use Rattle.race_sweeps.specs.declared.table.Table.{Table}
+use Rattle.race_sweeps.specs.declared.lookups.Table.{Table}
 
 pub record IsTable (g : GraphValue) (t : Table) : Type 0 where
   pub placed : IsPlaced g t.lines.items

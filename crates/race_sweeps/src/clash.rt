@@ -9,7 +9,7 @@ ghost use Rattle.race_sweeps.specs.Clash.{Clash, LinesClash};
 ghost use Rattle.race_sweeps.specs.Held.{IsHeld};
 ghost use Rattle.race_sweeps.specs.Settled.{IsSettled};
 
-use crate::held::Held;
+use crate::line_sections::Held;
 use graph_meaning::line_laws::accesses_fit;
 use graph_model::graph::Graph;
 pub use graph_terms::limits::MOST_ACCESSES;

@@ -10,7 +10,7 @@ ghost use Rattle.race_sweeps.specs.Placed.{IsPlaced};
 
 use crate::clash::is_reduction;
 use crate::classes::Classes;
-use crate::held::Held;
+use crate::line_sections::Held;
 use graph_model::graph::Graph;
 use index_spaces::NoMemory;
 use index_spaces::room::{filled, push, with_room};

@@ -1,18 +1,18 @@
 //! Which lines of a graph race, by sweeps of 64 lines at a time.
 #![tactic(auto)]
 
-mod asks;
+mod asked_classes;
 pub mod clash;
+mod class_conflicts;
 mod classes;
 mod guards;
-mod hard;
-pub mod held;
+pub mod line_sections;
+mod lookups;
 mod marks;
 mod members;
-mod near;
 mod reach;
 mod scan;
-mod table;
+mod unexempt;
 mod walk;
 
 ghost use Rattle.std.specs.Prelude.{◌≡◌, length, IfOk, IfSome};
@@ -21,9 +21,9 @@ ghost use Rattle.race_sweeps.specs.Placed.{IsOrder};
 ghost use Rattle.race_sweeps.specs.Settled.{AreEnough};
 ghost use Rattle.race_sweeps.specs.Table.{IsTable};
 
-use crate::held::Held;
+use crate::line_sections::Held;
+use crate::lookups::Table;
 use crate::scan::Scan;
-use crate::table::Table;
 use graph_model::graph::Graph;
 use index_spaces::NoMemory;
 use index_spaces::room::filled;

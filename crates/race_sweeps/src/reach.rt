@@ -6,7 +6,7 @@ ghost use Rattle.race_sweeps.specs.Marks.{bit_in};
 ghost use Rattle.race_sweeps.specs.Reach.{AreReachedOrSelf, IsReach, AreOutside, IsBounded};
 ghost use Rattle.race_sweeps.specs.Table.{IsTable};
 
-use crate::table::Table;
+use crate::lookups::Table;
 use graph_meaning::laws::edges_between_lines;
 use graph_model::graph::Graph;
 use index_spaces::NoMemory;

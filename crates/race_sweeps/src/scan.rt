@@ -9,13 +9,13 @@ ghost use Rattle.race_sweeps.specs.ScanState.{AreListed, IsScanned, AreGrouped};
 ghost use Rattle.race_sweeps.specs.Settled.{AreEnough, AreStillNoted};
 ghost use Rattle.race_sweeps.specs.Table.{IsTable};
 
-use crate::asks::ask_all;
-use crate::hard::harden_all;
-use crate::held::Held;
+use crate::asked_classes::ask_all;
+use crate::line_sections::Held;
+use crate::lookups::Table;
 use crate::marks::Marks;
 use crate::members::Members;
 use crate::reach::Reach;
-use crate::table::Table;
+use crate::unexempt::harden_all;
 use graph_meaning::laws::edges_between_lines;
 use graph_model::graph::Graph;
 use index_spaces::NoMemory;

@@ -11,11 +11,11 @@ ghost use Rattle.race_sweeps.specs.Table.{IsTable};
 ghost use Rattle.race_sweeps.specs.declared.marks.Mark.{Mark};
 
 use crate::clash::is_exempt;
-use crate::held::Held;
+use crate::line_sections::Held;
+use crate::lookups::Table;
 use crate::marks::Mark;
 use crate::reach::later;
 use crate::scan::Scan;
-use crate::table::Table;
 use graph_model::graph::Graph;
 
 impl Scan {

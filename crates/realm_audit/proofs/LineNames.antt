@@ -101,7 +101,7 @@ found_other g q o f h n i b e =
 -- and the line that is found has the name
 pub found_line : (g : GraphValue) (q : List ℕ) (i : ℕ) → StandsFor g q (found.Line i) → (i < length g.lines) × (line_name g i ≡ q)
 found_line g q i h =
-    let l : Line = record { name = []; verb = User; on = None } in
+    let l : Line = record { name = []; verb = User; on = [] } in
     let at = position-Some (λ (x : Line). bytes_eq x.name q) g.lines i l h in
     (at.0, name_is g i (get_or g.lines i l) (slice_get-get_or g.lines i l at.0) ∙ (bytes_eq-Decides (get_or g.lines i l).name q).0 at.1)
 

@@ -1,3 +1,4 @@
+pub mod Answered
 pub mod SessionAnswers
 pub mod MadeRequests
 pub mod Requests

@@ -19,7 +19,7 @@ use Rattle.graph_answers.specs.Texts.{made_text}
 use Rattle.graph_answers.specs.Delivered.{Delivers, IsAnswered}
 use Rattle.realm_top.specs.Answer.{reads, MadeAnswers, MadeAsks}
 use Rattle.graph_answers.specs.Answer.{report_with, made_says, run_text, Says, Served}
-use Rattle.graph_answers.proofs.Delivering.{enough_by_need, few_or_enough}
+use Rattle.realm_top.proofs.Answered.{enough_by_need, few_or_enough}
 
 -- what an action that reads nothing writes
 says_made : (x : Action) (request : Request) (g : GraphValue) (need : ℕ) (out : List ℕ) → reads x ≡ false → Says x request g need out → out ≡ made_says false g

@@ -31,7 +31,7 @@ use Rattle.realm_top.specs.SessionAnswer.{session_slots, SessionAnswers, IsSessi
 use Rattle.graph_answers.proofs.UpgradeAnswers.{one_upgrade}
 use Rattle.realm_top.proofs.SessionAnswers.{one_session}
 use Rattle.program_io.proofs.Public.{all_read, answered_as, cut_off_as, complete_as, answered_by}
-use Rattle.graph_answers.proofs.Delivering.{one_answer, if_some, refused_as}
+use Rattle.realm_top.proofs.Answered.{one_answer, if_some, refused_as}
 use Rattle.graph_answers.proofs.AuditAnswers.{one_audit}
 use Rattle.realm_top.proofs.MadeRequests.{made_one, not_made, done_says}
 

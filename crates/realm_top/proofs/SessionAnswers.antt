@@ -24,7 +24,7 @@ use Rattle.graph_answers.specs.Delivered.{Delivers, IsAnswered}
 use Rattle.realm_top.specs.SessionTexts.{unfit_in_by, unfit_in_text}
 use Rattle.graph_answers.specs.Texts.{slots_text}
 use Rattle.realm_top.specs.SessionAnswer.{IsNoSession, RefusesSession, GraphsAnswer, SessionAnswers, RunsUpTo, GraphsAsk, SessionAsks}
-use Rattle.graph_answers.proofs.Delivering.{accepted_or_unfit, broken_text, too_short}
+use Rattle.realm_top.proofs.Answered.{accepted_or_unfit, broken_text, too_short}
 
 -- a graph of a session that breaks a rule has a text
 pub unfit_in_has_text : (u : UnfitGraph) → u.why ≢ refusal.NoMemory → (out : List ℕ) × (unfit_in_text u ≡ Some out)

@@ -1,14 +1,16 @@
 -- Texts of lines and of sections.
-use Rattle.std.proofs.Common.{◌≡◌, ℕ, ◌+◌, ◌<◌, ◌≤◌, true, false, List, [], ◌∷◌, ◌++◌, length, take, refl, sym, ◌∙◌, ap, append_assoc, arith}
+use Rattle.std.proofs.Common.{◌≡◌, ℕ, ◌+◌, ◌<◌, ◌≤◌, true, false, List, [], ◌∷◌, ◌++◌, length, take, cond, refl, sym, ◌∙◌, ap, append_assoc, arith}
 use Rattle.std.specs.Prelude.{slice_index, codes, flat_map, ◌==◌}
 use Rattle.std.proofs.lemmas.Bool.{true≢false, eqb-true}
 use Rattle.std.proofs.lemmas.List.{take_more, take_all, append-nil}
 use Rattle.std.proofs.lemmas.Grind.{flat_map-append}
+use Rattle.graph_terms.specs.declared.format.Format.TheVariants.{Three}
+use Rattle.graph_terms.specs.Format.{has_since}
 use Rattle.graph_terms.specs.Graph.{GraphValue}
 use Rattle.explain_text.specs.TextLines.{TextLines}
 use Rattle.explain_text.specs.Lines.{by_number, numbered}
 use Rattle.explain_text.proofs.Public.{then_put}
-use Rattle.refusal_text.specs.Refused.{lines_text, few_lines_text, in_sections, order_text, held_text, advice_text}
+use Rattle.refusal_text.specs.Refused.{lines_text, few_lines_text, in_sections, waited, on_line, on_merge, advice_by, order_text, held_text, advice_text}
 
 -- no line, and one more
 pub lines_begin : (g : GraphValue) (ls : TextLines) (old : List ℕ) → old ≡ old ++ lines_text g ls []
@@ -44,6 +46,28 @@ advice_none g ls i j (q ∷ qs) e = absurd (let z : length (q ∷ qs) ≡ 0 = eq
 pub advice_some : (g : GraphValue) (ls : TextLines) (i j : ℕ) (qs : List ℕ) → (length qs == 0) ≡ false → held_text g ls i j qs ≡ advice_text g ls i j qs
 advice_some g ls i j [] e = absurd (true≢false e)
 advice_some g ls i j (q ∷ qs) e = refl
+
+-- what a line is to be on, which is on no line or on some
+pub advice_bare : (g : GraphValue) (on : List ℕ) (i : ℕ) → (length on == 0) ≡ true → on_line g i (codes "\n") ≡ advice_by g on i
+advice_bare g [] i e = refl
+advice_bare g (x ∷ on) i e = absurd (let z : length (x ∷ on) ≡ 0 = eqb-true (length (x ∷ on)) 0 e in omega arith)
+
+pub advice_too : (g : GraphValue) (on : List ℕ) (i : ℕ) → (length on == 0) ≡ false → has_since Three g.format ≡ true → on_line g i (codes " too\n") ≡ advice_by g on i
+advice_too g [] i e h = absurd (true≢false e)
+advice_too g (x ∷ on) i e h = sym (ap (λ b. cond b (on_line g i (codes " too\n")) (on_merge g x i)) h)
+
+pub advice_merge : (g : GraphValue) (on : List ℕ) (i : ℕ) → (length on == 0) ≡ false → has_since Three g.format ≡ false → on_merge g (slice_index on 0) i ≡ advice_by g on i
+advice_merge g [] i e h = absurd (true≢false e)
+advice_merge g (x ∷ on) i e h = sym (ap (λ b. cond b (on_line g i (codes " too\n")) (on_merge g x i)) h)
+
+-- the events that a release waits for, of which there are none or some
+pub waited_none : (q : ℕ) (on : List ℕ) → (length on == 0) ≡ true → q ∷ [] ≡ waited q on
+waited_none q [] e = refl
+waited_none q (x ∷ on) e = absurd (let z : length (x ∷ on) ≡ 0 = eqb-true (length (x ∷ on)) 0 e in omega arith)
+
+pub waited_some : (q : ℕ) (on : List ℕ) → (length on == 0) ≡ false → on ≡ waited q on
+waited_some q [] e = absurd (true≢false e)
+waited_some q (x ∷ on) e = refl
 
 -- the text of one more number
 pub each_more : (f : ℕ → List ℕ) (old mid new : List ℕ) (is : List ℕ) (k : ℕ) → k < length is → mid ≡ old ++ flat_map f (take k is) → new ≡ mid ++ f (slice_index is k) → new ≡ old ++ flat_map f (take (k + 1) is)

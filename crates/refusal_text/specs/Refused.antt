@@ -7,6 +7,8 @@ use Rattle.graph_terms.specs.declared.verb.Edge.{Edge}
 use Rattle.graph_terms.specs.declared.verb.Line.{Line}
 use Rattle.graph_terms.specs.declared.verb.Mode.{Mode}
 use Rattle.graph_terms.specs.declared.verb.Mode.TheVariants.{Read, Write, Sum, Least, Most}
+use Rattle.graph_terms.specs.declared.format.Format.TheVariants.{Three}
+use Rattle.graph_terms.specs.Format.{has_since}
 use Rattle.graph_terms.specs.Graph.{GraphValue}
 use Rattle.graph_terms.specs.Spelling.{line_name, lock_name, column_name}
 use Rattle.graph_terms.specs.Reservations.{lock_at, both_shared}
@@ -86,17 +88,25 @@ abbrev pub on_text : GraphValue → TextLines → Option ℕ → List ℕ
 on_text g ls None = codes "it is on no line, and has to be on a mergei\n"
 on_text g ls (Some m) = codes "it has to be on a mergei, and is on\n" ++ numbered g ls m
 
--- the two lines to write: a mergei of the line that it is on, else of the acquire, and the release on that
-abbrev pub waited : ℕ → Option ℕ → ℕ
-waited q None = q
-waited q (Some m) = m
+-- the events behind the `on` of a line
+abbrev pub on_of : GraphValue → ℕ → List ℕ
+on_of g j = option_map_or (λ (l : Line). l.on) (slice_get g.lines j) []
 
-abbrev pub write_text : GraphValue → ℕ → ℕ → Option ℕ → List ℕ
+-- the two lines to write: a mergei of the events that it waits for, else of the acquire, and the release on that
+abbrev pub waited : ℕ → List ℕ → List ℕ
+waited q [] = q ∷ []
+waited q (e ∷ es) = e ∷ es
+
+abbrev pub further_name : GraphValue → ℕ → List ℕ
+further_name g e = codes " " ++ line_name g e
+
+abbrev pub write_text : GraphValue → ℕ → ℕ → List ℕ → List ℕ
 write_text g r q on =
-    codes "put a mergei between them:\nNAME = mergei " ++ (line_name g (waited q on) ++ (codes "\n" ++ (line_name g r ++ (codes " = release " ++ (line_name g q ++ codes " on NAME\n")))))
+    codes "put a mergei between them:\nNAME = mergei" ++ (flat_map (further_name g) (waited q on) ++ (codes "\n" ++ (line_name g r ++ (codes " = release " ++ (line_name g q ++ codes " on NAME\n")))))
 
 abbrev pub release_text : GraphValue → TextLines → ReleaseReason → List ℕ
-release_text g ls r = refused_one g (codes "release") r.release ++ (numbered g ls r.release ++ (on_text g ls r.on ++ write_text g r.release r.acquire r.on))
+release_text g ls r =
+    refused_one g (codes "release") r.release ++ (numbered g ls r.release ++ (on_text g ls r.on ++ write_text g r.release r.acquire (on_of g r.release)))
 
 -- the column and the point that two lines share, and how they use it
 abbrev pub shared_text : GraphValue → TextLines → SharedPoint → ℕ → ℕ → List ℕ
@@ -114,13 +124,16 @@ abbrev pub in_sections : GraphValue → TextLines → ℕ → List ℕ → List 
 in_sections g ls i [] = by_number g ls i ++ codes " lies in no section\n"
 in_sections g ls i (q ∷ qs) = by_number g ls i ++ (codes " lies in the section of\n" ++ few_lines_text g ls (q ∷ qs))
 
--- what would order them: the second is to wait for the first
-abbrev pub advice_by : GraphValue → Option ℕ → ℕ → List ℕ
-advice_by g None i = codes "on " ++ (line_name g i ++ codes "\n")
-advice_by g (Some e) i = codes "on a merge of " ++ (line_name g e ++ (codes " and " ++ (line_name g i ++ codes "\n")))
+-- what would order them: the second is to wait for the first, in format 3 besides what it waits for
+abbrev pub on_line : GraphValue → ℕ → List ℕ → List ℕ
+on_line g i behind = codes "on " ++ (line_name g i ++ behind)
 
-abbrev pub on_of : GraphValue → ℕ → Option ℕ
-on_of g j = option_map_or (λ (l : Line). l.on) (slice_get g.lines j) None
+abbrev pub on_merge : GraphValue → ℕ → ℕ → List ℕ
+on_merge g e i = codes "on a merge of " ++ (line_name g e ++ (codes " and " ++ (line_name g i ++ codes "\n")))
+
+abbrev pub advice_by : GraphValue → List ℕ → ℕ → List ℕ
+advice_by g [] i = on_line g i (codes "\n")
+advice_by g (e ∷ es) i = cond (has_since Three g.format) (on_line g i (codes " too\n")) (on_merge g e i)
 
 abbrev pub order_text : GraphValue → TextLines → ℕ → ℕ → List ℕ
 order_text g ls i j = codes "to order them, put " ++ (by_number g ls j ++ (codes " " ++ advice_by g (on_of g j) i))

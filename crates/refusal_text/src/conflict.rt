@@ -6,7 +6,7 @@ ghost use Rattle.graph_terms.specs.Graph.{columns, line_passes, is_shared};
 ghost use Rattle.graph_terms.specs.Reservations.{both_shared};
 ghost use Rattle.graph_terms.specs.Spelling.{column_name};
 ghost use Rattle.explain_graph.specs.Explanation.{NamesMeeting};
-ghost use Rattle.refusal_text.specs.Refused.{mode_word, shared_text, meeting_text, advice_by, order_text, held_text, advice_text, on_of, most_told, told_few, few_lines_text, in_sections, are_equal, takes, of_one_lock, have_pair, none_text, turn_text, turns_text, pair_by, pair_text, pairs_with, pairs_text, apart_text, sections_text, race_text};
+ghost use Rattle.refusal_text.specs.Refused.{mode_word, shared_text, meeting_text, on_line, on_merge, advice_by, order_text, held_text, advice_text, on_of, most_told, told_few, few_lines_text, in_sections, are_equal, takes, of_one_lock, have_pair, none_text, turn_text, turns_text, pair_by, pair_text, pairs_with, pairs_text, apart_text, sections_text, race_text};
 ghost use Rattle.explain_text.specs.Lines.{by_number};
 
 use crate::bounds::MAX_SECTIONS;
@@ -19,6 +19,7 @@ use explanations::meetings::Meeting;
 use explanations::races::SharedPoint;
 use explanations::sections::lock_of;
 use graph_model::graph::Graph;
+use graph_terms::format::Format;
 use graph_terms::verb::Mode;
 use index_spaces::NoMemory;
 
@@ -171,7 +172,7 @@ fn put_order(
     text.put(b"to order them, put ")?;
     put_by_number(text, graph, lines, second)?;
     text.put(b" ")?;
-    put_advice_by(text, graph, graph.line(second).on, first)
+    put_advice_by(text, graph, graph.line(second).on.as_slice(), first)
 }
 
 /// Puts what has to be so for the second line to wait for the first, since it lies in sections.
@@ -193,24 +194,36 @@ fn put_held(
     put_in_sections(text, graph, lines, second, acquires)
 }
 
-/// Puts on what a line is to be, which is on another line or on none.
-fn put_advice_by(
-    text: &mut Text,
-    graph: &Graph,
-    on: Option<u32>,
-    first: u32,
-) -> Result<(), NoMemory>
-    ensures { OnOk result (text.new ≡ text.old ++ advice_by graph.now on first) }
+/// Puts on what a line is to be, which is on other lines or on none.
+fn put_advice_by(text: &mut Text, graph: &Graph, on: &[u32], first: u32) -> Result<(), NoMemory>
+    ensures { OnOk result (text.new ≡ text.old ++ advice_by graph.now on.now first) }
 {
-    match on {
-        None => text.put(b"on ")?,
-        Some(other) => {
-            text.put(b"on a merge of ")?;
-            put_name(text, graph, other)?;
-            text.put(b" and ")?;
-        }
+    if on.is_empty() {
+        return put_on_line(text, graph, first, b"\n");
     }
-    put_name(text, graph, first)?;
+    if graph.format().has_since(Format::Three) {
+        return put_on_line(text, graph, first, b" too\n");
+    }
+    put_on_merge(text, graph, on[0], first)
+}
+
+/// Puts that a line is to be on another.
+fn put_on_line(text: &mut Text, graph: &Graph, line: u32, behind: &[u8]) -> Result<(), NoMemory>
+    ensures { OnOk result (text.new ≡ text.old ++ on_line graph.now line behind.now) }
+{
+    text.put(b"on ")?;
+    put_name(text, graph, line)?;
+    text.put(behind)
+}
+
+/// Puts that a line is to be on a merge of two.
+fn put_on_merge(text: &mut Text, graph: &Graph, one: u32, other: u32) -> Result<(), NoMemory>
+    ensures { OnOk result (text.new ≡ text.old ++ on_merge graph.now one other) }
+{
+    text.put(b"on a merge of ")?;
+    put_name(text, graph, one)?;
+    text.put(b" and ")?;
+    put_name(text, graph, other)?;
     text.put(b"\n")
 }
 

@@ -1,8 +1,8 @@
 //! Names of lines, and lines with their numbers.
 
-ghost use Rattle.std.specs.Prelude.{◌≡◌, ◌++◌, OnOk};
+ghost use Rattle.std.specs.Prelude.{◌≡◌, ◌++◌, flat_map, OnOk};
 ghost use Rattle.graph_terms.specs.Spelling.{line_name};
-ghost use Rattle.refusal_text.specs.Refused.{lines_text};
+ghost use Rattle.refusal_text.specs.Refused.{further_name, lines_text};
 
 use explain_text::lines::put_numbered;
 use explain_text::{Lines, Text};
@@ -17,6 +17,24 @@ pub(crate) fn put_name(text: &mut Text, graph: &Graph, i: u32) -> Result<(), NoM
         return Ok(());
     }
     text.put(graph.line(i).name.bytes())
+}
+
+/// Puts the names of lines, each behind a space.
+pub(crate) fn put_names(text: &mut Text, graph: &Graph, lines: &[u32]) -> Result<(), NoMemory>
+    ensures { OnOk result (text.new ≡ text.old ++ flat_map (further_name graph.now) lines.now) }
+{
+    for i in lines {
+        put_further_name(text, graph, *i)?;
+    }
+    Ok(())
+}
+
+/// Puts a space and the name of a line.
+fn put_further_name(text: &mut Text, graph: &Graph, i: u32) -> Result<(), NoMemory>
+    ensures { OnOk result (text.new ≡ text.old ++ further_name graph.now i) }
+{
+    text.put(b" ")?;
+    put_name(text, graph, i)
 }
 
 /// Puts lines, one after the other.

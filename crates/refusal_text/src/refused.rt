@@ -1,13 +1,13 @@
 //! Why a graph is refused, as text.
 
-ghost use Rattle.std.specs.Prelude.{◌≡◌, ◌<◌, ◌++◌, length, IfSome, OnOk};
+ghost use Rattle.std.specs.Prelude.{◌≡◌, ◌<◌, ◌++◌, length, flat_map, IfSome, OnOk};
 ghost use Rattle.graph_terms.specs.Graph.{locks};
 ghost use Rattle.graph_terms.specs.Spelling.{lock_name};
 ghost use Rattle.explain_graph.specs.Explanation.{AreEdges, NamesItems};
-ghost use Rattle.refusal_text.specs.Refused.{refused_one, refused_two, cycle_text, unreleased_by, unreleased_text, entered_text, section_text, waited, write_text, descends_text, on_text, waited, write_text, release_text, explanation_text, waited, write_text};
+ghost use Rattle.refusal_text.specs.Refused.{refused_one, refused_two, cycle_text, unreleased_by, unreleased_text, entered_text, section_text, descends_text, on_text, waited, further_name, write_text, release_text, explanation_text};
 
 use crate::conflict::put_conflict;
-use crate::lines::put_name;
+use crate::lines::{put_name, put_names};
 use explain_graph::Explanation;
 use explain_graph::reasons::{
     CycleReason, DescendsReason, ReleaseReason, SectionReason, UnreleasedReason,
@@ -195,26 +195,28 @@ fn put_release(
     lines: &Lines,
     reason: &ReleaseReason,
 ) -> Result<(), NoMemory>
+    requires { reason.now.release < length graph.now.lines }
     ensures { OnOk result (text.new ≡ text.old ++ release_text graph.now lines.now reason.now) }
 {
     put_refused_one(text, graph, b"release", reason.release)?;
     put_numbered(text, graph, lines, reason.release)?;
     put_on(text, graph, lines, reason.on)?;
-    put_write(text, graph, reason.release, reason.acquire, reason.on)
+    let on = graph.line(reason.release).on.as_slice();
+    put_write(text, graph, reason.release, reason.acquire, on)
 }
 
-/// Puts the two lines to write for a release that is not on a mergei.
+/// Puts the two lines to write for a release that is not on mergeis alone.
 fn put_write(
     text: &mut Text,
     graph: &Graph,
     release: u32,
     acquire: u32,
-    on: Option<u32>,
+    on: &[u32],
 ) -> Result<(), NoMemory>
-    ensures { OnOk result (text.new ≡ text.old ++ write_text graph.now release acquire on) }
+    ensures { OnOk result (text.new ≡ text.old ++ write_text graph.now release acquire on.now) }
 {
-    text.put(b"put a mergei between them:\nNAME = mergei ")?;
-    put_name(text, graph, waited(acquire, on))?;
+    text.put(b"put a mergei between them:\nNAME = mergei")?;
+    put_waited(text, graph, acquire, on)?;
     text.put(b"\n")?;
     put_name(text, graph, release)?;
     text.put(b" = release ")?;
@@ -222,17 +224,18 @@ fn put_write(
     text.put(b" on NAME\n")
 }
 
-/// The line that the release is on, else its acquire.
-fn waited(acquire: u32, on: Option<u32>) -> u32
-    ensures { result ≡ waited acquire on }
+/// Puts the names of the lines that a release is on, else of its acquire.
+fn put_waited(text: &mut Text, graph: &Graph, acquire: u32, on: &[u32]) -> Result<(), NoMemory>
+    ensures { OnOk result (text.new ≡ text.old ++ flat_map (further_name graph.now) (waited acquire on.now)) }
 {
-    match on {
-        Some(line) => line,
-        None => acquire,
+    if on.is_empty() {
+        put_names(text, graph, &[acquire])
+    } else {
+        put_names(text, graph, on)
     }
 }
 
-/// Puts the line that a release is on, if there is one.
+/// Puts the line that a release is on and that is no mergei, if there is one.
 fn put_on(text: &mut Text, graph: &Graph, lines: &Lines, on: Option<u32>) -> Result<(), NoMemory>
     ensures { OnOk result (text.new ≡ text.old ++ on_text graph.now lines.now on) }
 {

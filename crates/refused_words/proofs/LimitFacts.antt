@@ -2,7 +2,7 @@
 use Rattle.std.proofs.Common.{◌≡◌, ℕ, zero, suc, ◌+◌, ◌-◌, ◌<◌, ◌≤◌, Bool, true, false, cond, List, [], ◌∷◌, ◌++◌, length, map, take, drop, get_or, refl, sym, ◌∙◌, ap, subst, append_assoc, arith, ⊎_elim}
 use Rattle.std.specs.Prelude.{Option, Some, None, option_map, bytes_eq, filter_map, unwrap_or, find, filter, sum_by, is_some, codes, slice_index_or, ◌==◌, Contains, nat_lt}
 use Rattle.std.specs.Option.{option_map_or}
-use Rattle.std.proofs.lemmas.Bool.{cases_lt, eq-eqb, ne_eqb, cond-true, cond-false, true≢false}
+use Rattle.std.proofs.lemmas.Bool.{cases_lt, eq-eqb, ne_eqb, cond-true, cond-false, le-ltb, true≢false}
 use Rattle.std.proofs.lemmas.List.{length-append, length-map, length-drop, append-nil, take_more}
 use Rattle.std.proofs.lemmas.Option.{slice_get-get_or}
 use Rattle.std.proofs.lemmas.List.Elements.{filter-append, filter_map-append}
@@ -12,7 +12,7 @@ use Rattle.std.proofs.lemmas.Grind.{flat_map-append}
 use Rattle.basics.specs.Sums.{below}
 use Rattle.basics.proofs.ListFacts.{contains_here, contains_there}
 use Rattle.index_spaces.specs.Space.{space_size, points, interval_points}
-use Rattle.graph_terms.specs.declared.limits.TheConstants.{MAX_INSTS, MAX_COLUMNS, MAX_CELLS, MAX_LOCKS, MAX_BARRIERS, MAX_LINES, MAX_EDGES, MAX_EVENTS}
+use Rattle.graph_terms.specs.declared.limits.TheConstants.{MAX_INSTS, MAX_COLUMNS, MAX_CELLS, MAX_LOCKS, MAX_BARRIERS, MAX_LINES, MAX_EDGES}
 use Rattle.graph_terms.specs.declared.decl.ColumnInfo.{ColumnInfo}
 use Rattle.graph_terms.specs.declared.decl.Decl.{Decl}
 use Rattle.graph_terms.specs.declared.decl.Decl.TheVariants.{Inst, Lock, Barrier}
@@ -25,21 +25,21 @@ use Rattle.graph_terms.specs.declared.verb.EdgeKind.TheVariants as edge_kinds
 use Rattle.graph_terms.specs.declared.verb.Line.{Line}
 use Rattle.graph_terms.specs.declared.verb.Verb.TheVariants.{Phase, Merge, MergeIgnore}
 use Rattle.graph_terms.specs.Graph.{GraphValue, lock_of, barrier_of, columns, locks, barriers, space_at, column_space, is_phase_of}
-use Rattle.graph_terms.specs.Edges.{edges, edges_into, last_place, edges_from_some, line_edges, verb_edges}
-use Rattle.graph_terms.specs.Fits.{IsGraph, LinesFit, is_inst, cell_count, with_decl, with_line}
+use Rattle.graph_terms.specs.Edges.{edges, edges_into, last_place, edges_from_some, on_edges, line_edges, verb_edges}
+use Rattle.graph_terms.specs.Fits.{IsGraph, LinesFit, is_inst, cell_count, with_decl, with_line, most_events}
 use Rattle.graph_terms.specs.Table.{verb_of}
 use Rattle.graph_indexes.specs.declared.counts.Counts.{Counts}
 use Rattle.graph_terms.proofs.Public.{edges_push}
 use Rattle.graph_model.proofs.CountLaws.{counts_with_decl, cells_of_fields}
 use Rattle.graph_model.proofs.TableLaws.{limits_line}
-use Rattle.graph_words.specs.Draft.{BarrierName, form_of, has_on, line_draft, merge_draft, lock_draft, barrier_draft, barrier_with, inst_draft, inst_with, op_of, space_number}
+use Rattle.graph_words.specs.Draft.{BarrierName, form_of, on_events, line_draft, merge_draft, lock_draft, barrier_draft, barrier_with, inst_draft, inst_with, op_of, space_number}
 use Rattle.graph_reader.proofs.Public.{lock_shape, barrier_shape, inst_shape}
 use Rattle.basics.proofs.TestedLists.{find_mapped}
-use Rattle.graph_reader.specs.Kinds.{kind_draft, kind_verb, kind_line, named_number}
+use Rattle.graph_reader.specs.Kinds.{kind_draft, kind_verb, kind_on, kind_line, named_number}
 use Rattle.graph_reader.specs.Merges.{merge_verb, merge_line}
 use Rattle.graph_words.specs.Words.{pieces, count_of, value_of}
 use Rattle.index_spaces.specs.declared.Op.{Op}
-use Rattle.refused_words.specs.Limits.{QuantityValue, quantity_value, quantity, is_above, verb_quantities, limit_in, inst_limit}
+use Rattle.refused_words.specs.Limits.{QuantityValue, quantity_value, quantity, is_above, verb_quantities, on_quantities, event_quantities, limit_in, inst_limit}
 use Rattle.refused_words.specs.declared.limits.Quantity.{Quantity}
 
 lines_more : (g : GraphValue) (l : Line) → length (with_line g l).lines ≡ length g.lines + 1
@@ -56,31 +56,31 @@ merge_edges g false name es = length-map _ _ ∙ length-map es _
 abbrev merge_quantities : GraphValue → ℕ → List QuantityValue
 merge_quantities g n =
     quantity (codes "operations") (length g.lines + 1) MAX_LINES
-    ∷ quantity (codes "events of a merge") n MAX_EVENTS
+    ∷ quantity (codes "events of a merge") n (most_events g.format)
     ∷ quantity (codes "edges") (length (edges g) + n) MAX_EDGES
     ∷ []
 
-same_merge : (lines events edges n m k : ℕ) → lines ≡ n → events ≡ m → edges ≡ k →
-    find is_above (quantity (codes "operations") lines MAX_LINES ∷ quantity (codes "events of a merge") events MAX_EVENTS ∷ quantity (codes "edges") edges MAX_EDGES ∷ [])
-    ≡ find is_above (quantity (codes "operations") n MAX_LINES ∷ quantity (codes "events of a merge") m MAX_EVENTS ∷ quantity (codes "edges") k MAX_EDGES ∷ [])
-same_merge lines events edges n m k a b c = cc
+same_merge : (lines events edges n m k most : ℕ) → lines ≡ n → events ≡ m → edges ≡ k →
+    find is_above (quantity (codes "operations") lines MAX_LINES ∷ quantity (codes "events of a merge") events most ∷ quantity (codes "edges") edges MAX_EDGES ∷ [])
+    ≡ find is_above (quantity (codes "operations") n MAX_LINES ∷ quantity (codes "events of a merge") m most ∷ quantity (codes "edges") k MAX_EDGES ∷ [])
+same_merge lines events edges n m k most a b c = cc
 
 merge_some : (g : GraphValue) (name : List ℕ) (ignores : Bool) (es : List (List ℕ)) → 0 < length es → limit_in g (merge_draft g name (merge_verb ignores) es) ≡ find is_above (merge_quantities g (length es))
 merge_some g name ignores [] some = absurd (omega arith)
 merge_some g name true (e ∷ es) some =
-    same_merge _ _ _ _ _ _ (lines_more g (merge_line g true name (e ∷ es))) (length-map (e ∷ es) _) (edges_more g (merge_line g true name (e ∷ es)) ∙ ap (λ k. length (edges g) + k) (merge_edges g true name (e ∷ es)))
+    same_merge _ _ _ _ _ _ _ (lines_more g (merge_line g true name (e ∷ es))) (length-map (e ∷ es) _) (edges_more g (merge_line g true name (e ∷ es)) ∙ ap (λ k. length (edges g) + k) (merge_edges g true name (e ∷ es)))
 merge_some g name false (e ∷ es) some =
-    same_merge _ _ _ _ _ _ (lines_more g (merge_line g false name (e ∷ es))) (length-map (e ∷ es) _) (edges_more g (merge_line g false name (e ∷ es)) ∙ ap (λ k. length (edges g) + k) (merge_edges g false name (e ∷ es)))
+    same_merge _ _ _ _ _ _ _ (lines_more g (merge_line g false name (e ∷ es))) (length-map (e ∷ es) _) (edges_more g (merge_line g false name (e ∷ es)) ∙ ap (λ k. length (edges g) + k) (merge_edges g false name (e ∷ es)))
 
 same_three : (a b c x y z : QuantityValue) → a ≡ x → b ≡ y → c ≡ z → find is_above (a ∷ b ∷ c ∷ []) ≡ find is_above (x ∷ y ∷ z ∷ [])
 same_three a b c x y z p q r = cc
 
 pub merge_limit : (g : GraphValue) (name : List ℕ) (ignores : Bool) (ws : List (List ℕ)) (n : ℕ) (a b c : QuantityValue) → 2 ≤ length ws → n ≡ length ws - 1 → a ≡ quantity (codes "operations") (length g.lines + 1) MAX_LINES →
-    b ≡ quantity (codes "events of a merge") n MAX_EVENTS → c ≡ quantity (codes "edges") (length (edges g) + n) MAX_EDGES → find is_above (a ∷ b ∷ c ∷ []) ≡ limit_in g (merge_draft g name (merge_verb ignores) (drop 1 ws))
+    b ≡ quantity (codes "events of a merge") n (most_events g.format) → c ≡ quantity (codes "edges") (length (edges g) + n) MAX_EDGES → find is_above (a ∷ b ∷ c ∷ []) ≡ limit_in g (merge_draft g name (merge_verb ignores) (drop 1 ws))
 merge_limit g name ignores ws n a b c some is first second third =
     let left : length (drop 1 ws) ≡ length ws - 1 = length-drop 1 ws in
     let same : n ≡ length (drop 1 ws) = omega arith in
-    same_three _ _ _ _ _ _ first (second ∙ ap (λ k. quantity (codes "events of a merge") k MAX_EVENTS) same) (third ∙ ap (λ k. quantity (codes "edges") (length (edges g) + k) MAX_EDGES) same)
+    same_three _ _ _ _ _ _ first (second ∙ ap (λ k. quantity (codes "events of a merge") k (most_events g.format)) same) (third ∙ ap (λ k. quantity (codes "edges") (length (edges g) + k) MAX_EDGES) same)
     ∙ sym (merge_some g name ignores (drop 1 ws) (omega arith))
 
 pub merge_none : (g : GraphValue) (name : List ℕ) (ignores : Bool) (ws : List (List ℕ)) → length ws < 2 → None ≡ limit_in g (merge_draft g name (merge_verb ignores) (drop 1 ws))
@@ -102,42 +102,45 @@ pub first_of : (qs : List Quantity) → option_map quantity_value (find (λ (q :
 first_of qs = sym (find_mapped is_above quantity_value qs)
 
 -- a line of a kind
-no_events : (kind : Kind) (ns : List ℕ) → verb_quantities (verb_of kind ns) ≡ []
-no_events kinds.User ns = refl
-no_events kind ns = refl
+no_events : (format : Format) (kind : Kind) (ns : List ℕ) → verb_quantities format (verb_of kind ns) ≡ []
+no_events format kinds.User ns = refl
+no_events format kind ns = refl
 
 pub edge_if : (kind : EdgeKind) (o : Option ℕ) (i : ℕ) → length (edges_from_some kind o i) ≡ cond (is_some o) 1 0
 edge_if kind None i = refl
 edge_if kind (Some e) i = refl
 
-on_there : (b : Bool) (e : ℕ) → is_some (cond b (Some e) None) ≡ b
-on_there true e = refl
-on_there false e = refl
-
-same_kind : (lines edges n k : ℕ) (qs : List QuantityValue) → lines ≡ n → edges ≡ k → qs ≡ [] →
+same_kind : (lines edges n k : ℕ) (qs rs : List QuantityValue) → lines ≡ n → edges ≡ k → qs ≡ rs →
     find is_above (quantity (codes "operations") lines MAX_LINES ∷ qs ++ quantity (codes "edges") edges MAX_EDGES ∷ [])
-    ≡ find is_above (quantity (codes "operations") n MAX_LINES ∷ quantity (codes "edges") k MAX_EDGES ∷ [])
-same_kind lines edges n k qs a b c =
-    ap (λ xs. find is_above (quantity (codes "operations") lines MAX_LINES ∷ xs ++ quantity (codes "edges") edges MAX_EDGES ∷ [])) c
-    ∙ (let same : find is_above (quantity (codes "operations") lines MAX_LINES ∷ quantity (codes "edges") edges MAX_EDGES ∷ []) ≡ find is_above (quantity (codes "operations") n MAX_LINES ∷ quantity (codes "edges") k MAX_EDGES ∷ []) = cc in same)
+    ≡ find is_above (quantity (codes "operations") n MAX_LINES ∷ rs ++ quantity (codes "edges") k MAX_EDGES ∷ [])
+same_kind lines edges n k qs rs a b c =
+    ap (λ x. find is_above (quantity (codes "operations") x MAX_LINES ∷ qs ++ quantity (codes "edges") edges MAX_EDGES ∷ [])) a
+    ∙ (ap (λ x. find is_above (quantity (codes "operations") n MAX_LINES ∷ qs ++ quantity (codes "edges") x MAX_EDGES ∷ [])) b
+    ∙ ap (λ xs. find is_above (quantity (codes "operations") n MAX_LINES ∷ xs ++ quantity (codes "edges") k MAX_EDGES ∷ [])) c)
 
-kind_some : (g : GraphValue) (kind : Kind) (name : List ℕ) (ws : List (List ℕ)) (given on : ℕ) → given ≡ length (verb_edges g.lines (length g.lines) (kind_verb g kind ws)) → on ≡ cond (has_on (form_of kind) ws) 1 0 →
-    limit_in g (Some (kind_draft g kind name ws)) ≡ find is_above (quantity (codes "operations") (length g.lines + 1) MAX_LINES ∷ quantity (codes "edges") (length (edges g) + (given + on)) MAX_EDGES ∷ [])
+kind_some : (g : GraphValue) (kind : Kind) (name : List ℕ) (ws : List (List ℕ)) (given on : ℕ) → given ≡ length (verb_edges g.lines (length g.lines) (kind_verb g kind ws)) → on ≡ length (on_events g.format (form_of kind) ws) →
+    limit_in g (Some (kind_draft g kind name ws)) ≡ find is_above (quantity (codes "operations") (length g.lines + 1) MAX_LINES ∷ on_quantities g.format (kind_on g kind ws) ++ quantity (codes "edges") (length (edges g) + (given + on)) MAX_EDGES ∷ [])
 kind_some g kind name ws given on is there =
     let l : Line = kind_line g kind name ws in
-    let by_on : length (edges_from_some edge_kinds.Passes l.on (length g.lines)) ≡ on = edge_if edge_kinds.Passes l.on (length g.lines) ∙ (ap (λ b. cond b 1 0) (on_there (has_on (form_of kind) ws) _) ∙ sym there) in
-    let both : length (line_edges g.lines l) ≡ length (edges_from_some edge_kinds.Passes l.on (length g.lines)) + length (verb_edges g.lines (length g.lines) l.verb) = length-append (edges_from_some edge_kinds.Passes l.on (length g.lines)) (verb_edges g.lines (length g.lines) l.verb) in
+    let by_on : length (on_edges l.on (length g.lines)) ≡ on = length-map l.on _ ∙ (length-map (on_events g.format (form_of kind) ws) _ ∙ sym there) in
+    let both : length (line_edges g.lines l) ≡ length (on_edges l.on (length g.lines)) + length (verb_edges g.lines (length g.lines) l.verb) = length-append (on_edges l.on (length g.lines)) (verb_edges g.lines (length g.lines) l.verb) in
     let all : length (edges (with_line g l)) ≡ length (edges g) + length (line_edges g.lines l) = edges_more g l in
     let verb : given ≡ length (verb_edges g.lines (length g.lines) l.verb) = is in
     let sum : length (edges (with_line g l)) ≡ length (edges g) + (given + on) = omega arith in
-    same_kind _ _ _ _ (verb_quantities l.verb) (lines_more g l) sum (no_events kind _)
+    same_kind _ _ _ _ (event_quantities g.format l) (on_quantities g.format l.on) (lines_more g l) sum (ap (λ qs. qs ++ on_quantities g.format l.on) (no_events g.format kind _))
 
-same_two : (a b x y : QuantityValue) → a ≡ x → b ≡ y → find is_above (a ∷ b ∷ []) ≡ find is_above (x ∷ y ∷ [])
-same_two a b x y p q = cc
+-- no events are not too many
+none_behind : (format : Format) (on : List ℕ) (a b : QuantityValue) → find is_above (a ∷ quantity (codes "events behind on") (length on) (most_events format) ∷ b ∷ []) ≡ find is_above (a ∷ on_quantities format on ++ b ∷ [])
+none_behind format [] a b = ap (λ t. cond (is_above a) (Some a) (cond t (Some (quantity (codes "events behind on") 0 (most_events format))) (find is_above (b ∷ [])))) (le-ltb (most_events format) 0 (omega arith))
+none_behind format (e ∷ es) a b = refl
 
-pub kind_limit : (g : GraphValue) (kind : Kind) (name : List ℕ) (ws : List (List ℕ)) (given on : ℕ) (a b : QuantityValue) → given ≡ length (verb_edges g.lines (length g.lines) (kind_verb g kind ws)) → on ≡ cond (has_on (form_of kind) ws) 1 0 →
-    a ≡ quantity (codes "operations") (length g.lines + 1) MAX_LINES → b ≡ quantity (codes "edges") (length (edges g) + (given + on)) MAX_EDGES → find is_above (a ∷ b ∷ []) ≡ limit_in g (Some (kind_draft g kind name ws))
-kind_limit g kind name ws given on a b is there first second = same_two _ _ _ _ first second ∙ sym (kind_some g kind name ws given on is there)
+pub kind_limit : (g : GraphValue) (kind : Kind) (name : List ℕ) (ws : List (List ℕ)) (given on : ℕ) (a b c : QuantityValue) → given ≡ length (verb_edges g.lines (length g.lines) (kind_verb g kind ws)) → on ≡ length (on_events g.format (form_of kind) ws) →
+    a ≡ quantity (codes "operations") (length g.lines + 1) MAX_LINES → b ≡ quantity (codes "events behind on") on (most_events g.format) → c ≡ quantity (codes "edges") (length (edges g) + (given + on)) MAX_EDGES →
+    find is_above (a ∷ b ∷ c ∷ []) ≡ limit_in g (Some (kind_draft g kind name ws))
+kind_limit g kind name ws given on a b c is there first second third =
+    let count : on ≡ length (kind_on g kind ws) = there ∙ sym (length-map (on_events g.format (form_of kind) ws) _) in
+    same_three _ _ _ _ _ _ first (second ∙ ap (λ n. quantity (codes "events behind on") n (most_events g.format)) count) third
+    ∙ (none_behind g.format (kind_on g kind ws) _ _ ∙ sym (kind_some g kind name ws given on is there))
 
 pub phase_verb : (g : GraphValue) (ws : List (List ℕ)) → 0 < length ws → kind_verb g kinds.Phase ws ≡ Phase (named_number g BarrierName (slice_index_or ws 0 []))
 phase_verb g [] some = absurd (omega arith)
@@ -323,6 +326,9 @@ above_first a x y p h = ap Some p ∙ sym (cond-true (is_above x) (Some x) (cond
 
 pub above_later : (b x y : QuantityValue) → b ≡ y → is_above x ≡ false → find is_above (b ∷ []) ≡ find is_above (x ∷ y ∷ [])
 above_later b x y p h = ap (λ q. find is_above (q ∷ [])) p ∙ sym (cond-false (is_above x) (Some x) (cond (is_above y) (Some y) None) h)
+
+same_two : (a b x y : QuantityValue) → a ≡ x → b ≡ y → find is_above (a ∷ b ∷ []) ≡ find is_above (x ∷ y ∷ [])
+same_two a b x y p q = cc
 
 pub above_second : (a b x y z : QuantityValue) → a ≡ x → b ≡ y → is_above y ≡ true → find is_above (a ∷ b ∷ []) ≡ find is_above (x ∷ y ∷ z ∷ [])
 above_second a b x y z p q h = same_two a b x y p q ∙ ap (cond (is_above x) (Some x)) (cond-true (is_above y) (Some y) None h ∙ sym (cond-true (is_above y) (Some y) (cond (is_above z) (Some z) None) h))

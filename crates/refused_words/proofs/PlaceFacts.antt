@@ -2,7 +2,7 @@
 use Rattle.std.proofs.Common.{◌≡◌, ℕ, ◌+◌, ◌-◌, ◌<◌, ◌≤◌, true, false, ◌&&◌, ◌||◌, List, [], length, drop, sym, ◌∙◌, ap, arith}
 use Rattle.std.specs.Prelude.{Some, None, ◌==◌, option_map, slice_get, slice_index_or, find, nat_lt}
 use Rattle.std.specs.Option.{option_map_or}
-use Rattle.std.proofs.lemmas.Bool.{cond-true, cond-false, lt-ltb, le-ltb, eq-eqb, ne_eqb}
+use Rattle.std.proofs.lemmas.Bool.{cond-true, cond-false, lt-ltb, le-ltb, ne_eqb, and_from}
 use Rattle.std.proofs.lemmas.List.{length-drop, get_or-drop}
 use Rattle.graph_terms.specs.declared.format.Format.{Format}
 use Rattle.graph_terms.specs.declared.table.Kind.{Kind}
@@ -34,22 +34,21 @@ module _ (fm : Format) (kind : Kind) (ws : List (List ℕ)) (other : is_merge ws
   abbrev rest : List (List ℕ)
   rest = drop (length (kind_words kind)) ws
 
-  pub kind_at : (n i : ℕ) → n ≡ i + length (kind_words kind) → verb_place fm ws n ≡ behind_kind kind rest i
+  pub kind_at : (n i : ℕ) → n ≡ i + length (kind_words kind) → verb_place fm ws n ≡ behind_kind fm kind rest i
   kind_at n i e =
       cond-false (is_merge ws) _ _ other
-      ∙ (ap (λ o. option_map_or (λ k. kind_place k ws n) o None) found
+      ∙ (ap (λ o. option_map_or (λ k. kind_place fm k ws n) o None) found
       ∙ (cond-false (nat_lt n (length (kind_words kind)) || nat_lt (length ws) (length (kind_words kind))) None _ (ap (λ b. b || nat_lt (length ws) (length (kind_words kind))) (le-ltb n (length (kind_words kind)) (let b : length (kind_words kind) ≤ n = omega arith in b)) ∙ le-ltb (length ws) (length (kind_words kind)) long)
-      ∙ ap (behind_kind kind rest) (let m : n - length (kind_words kind) ≡ i = omega arith in m)))
+      ∙ ap (behind_kind fm kind rest) (let m : n - length (kind_words kind) ≡ i = omega arith in m)))
 
   pub column_at : (n i : ℕ) → n ≡ i + length (kind_words kind) → i < length (kind_places kind) → verb_place fm ws n ≡ option_map as_place (slice_get (kind_places kind) i)
   column_at n i e below = kind_at n i e ∙ cond-true (nat_lt i (length (kind_places kind))) _ _ (lt-ltb i (length (kind_places kind)) below)
 
-  pub on_at : (n i : ℕ) → n ≡ i + length (kind_words kind) → i ≡ length (kind_places kind) + 1 → has_on (form_of kind) rest ≡ true → verb_place fm ws n ≡ Some EventName
-  on_at n i e last on =
+  pub on_at : (n i : ℕ) → n ≡ i + length (kind_words kind) → length (kind_places kind) < i → has_on fm (form_of kind) rest ≡ true → verb_place fm ws n ≡ Some EventName
+  on_at n i e past on =
       kind_at n i e
       ∙ (cond-false (nat_lt i (length (kind_places kind))) _ _ (le-ltb i (length (kind_places kind)) (let b : length (kind_places kind) ≤ i = omega arith in b))
-      ∙ cond-true ((i - length (kind_places kind) == 1) && has_on (form_of kind) rest) _ _
-      (ap (λ b. b && has_on (form_of kind) rest) (eq-eqb (i - length (kind_places kind)) 1 (let m : i - length (kind_places kind) ≡ 1 = omega arith in m)) ∙ on))
+      ∙ cond-true (nat_lt (length (kind_places kind)) i && has_on fm (form_of kind) rest) _ _ (and_from (nat_lt (length (kind_places kind)) i) _ (lt-ltb (length (kind_places kind)) i past) on))
 
 pub merge_at : (fm : Format) (ws : List (List ℕ)) (n : ℕ) → is_merge ws ≡ true → verb_place fm ws (n + 1) ≡ Some EventName
 merge_at fm ws n h = cond-true (is_merge ws) _ _ h ∙ cond-false (n + 1 == 0) _ _ (ne_eqb (n + 1) 0 (λ z. absurd (omega (arith, z))))

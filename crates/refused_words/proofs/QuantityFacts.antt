@@ -1,11 +1,11 @@
 -- A line that Limit refuses brings a quantity above its bound.
-use Rattle.std.proofs.Common.{◌≡◌, ℕ, ◌+◌, Bool, true, false, cond, ◌||◌, ◌⊎◌, inl, inr, List, [], ◌∷◌, ◌++◌, length, refl, sym, ◌∙◌, ap, append-nil, append_assoc, arith}
+use Rattle.std.proofs.Common.{◌≡◌, ℕ, ◌+◌, ◌<◌, Bool, true, false, cond, ◌||◌, ◌⊎◌, inl, inr, List, [], ◌∷◌, ◌++◌, length, refl, sym, ◌∙◌, ap, append-nil, append_assoc, arith}
 use Rattle.std.specs.Prelude.{Option, Some, None, is_some, find, filter, filter_map, nat_lt, codes}
 use Rattle.std.specs.Option.{option_map_or}
 use Rattle.std.specs.List.{list_any}
-use Rattle.std.proofs.lemmas.Bool.{true≢false, or_parts, or_cases}
+use Rattle.std.proofs.lemmas.Bool.{true≢false, or_parts, or_cases, or_right, ltb-true}
 use Rattle.std.proofs.lemmas.Option.{none-some}
-use Rattle.graph_terms.specs.declared.limits.TheConstants.{MAX_TEXT, MAX_INSTS, MAX_COLUMNS, MAX_CELLS, MAX_LOCKS, MAX_BARRIERS, MAX_LINES, MAX_EDGES, MAX_EVENTS}
+use Rattle.graph_terms.specs.declared.limits.TheConstants.{MAX_TEXT, MAX_INSTS, MAX_COLUMNS, MAX_CELLS, MAX_LOCKS, MAX_BARRIERS, MAX_LINES, MAX_EDGES}
 use Rattle.graph_terms.specs.declared.decl.Decl.{Decl}
 use Rattle.graph_terms.specs.declared.decl.Decl.TheVariants.{Space, Inst, Lock, Barrier}
 use Rattle.graph_terms.specs.declared.format.Format.{Format}
@@ -16,7 +16,7 @@ use Rattle.graph_terms.specs.declared.verb.Verb.TheVariants.{Merge, MergeIgnore}
 use Rattle.graph_terms.specs.declared.why.Why.{Why}
 use Rattle.graph_terms.specs.declared.why.Why.TheVariants as reasons
 use Rattle.graph_terms.specs.Edges.{edges}
-use Rattle.graph_terms.specs.Fits.{IsGraph, DeclsFit, LinesFit, decl_tests, line_tests, decl_fault, line_fault, is_large, is_beyond, merges_many, is_inst, cell_count, with_decl, with_line}
+use Rattle.graph_terms.specs.Fits.{IsGraph, DeclsFit, LinesFit, decl_tests, line_tests, decl_fault, line_fault, is_large, is_beyond, merged_events, most_events, names_many, is_inst, cell_count, with_decl, with_line}
 use Rattle.graph_terms.specs.Graph.{GraphValue, columns_of, lock_of, barrier_of, columns, locks, barriers}
 use Rattle.graph_terms.specs.Spelling.{head}
 use Rattle.graph_indexes.specs.declared.counts.Counts.{Counts}
@@ -28,7 +28,7 @@ use Rattle.graph_words.specs.Draft.{Draft, draft}
 use Rattle.graph_reader.specs.FirstFault.{words_fault, draft_fault, item_fault, or_else, is_empty}
 use Rattle.graph_words.proofs.Public.{each_fails}
 use Rattle.basics.proofs.Choices.{chosen}
-use Rattle.refused_words.specs.Limits.{QuantityValue, quantity, is_above, decl_quantities, verb_quantities, line_quantities, item_quantities, limit_in, limit_of}
+use Rattle.refused_words.specs.Limits.{QuantityValue, quantity, is_above, decl_quantities, verb_quantities, on_quantities, event_quantities, line_quantities, item_quantities, limit_in, limit_of}
 use Rattle.refused_words.specs.Laws.{is_long_with, is_long_in, is_long_by}
 
 abbrev of_items : Format → List Decl → List Line → GraphValue
@@ -39,7 +39,7 @@ lines_within : (fm : Format) (ds : List Decl) (before ls : List Line) → LinesF
 lines_within fm ds before [] f h = ap (λ xs. is_beyond (of_items fm ds xs)) (append-nil before) ∙ h
 lines_within fm ds before (l ∷ ls) f h =
     let t = each_fails (line_tests (of_items fm ds before) l) f.1 in
-    let now : is_beyond (of_items fm ds (before ++ l ∷ [])) ≡ false = (or_parts (merges_many l.verb) _ t.1.1.1.1.1.1.0).1 in
+    let now : is_beyond (of_items fm ds (before ++ l ∷ [])) ≡ false = (or_parts (names_many fm l.verb l.on) _ t.1.1.1.1.1.1.0).1 in
     ap (λ xs. is_beyond (of_items fm ds xs)) (sym (append_assoc before (l ∷ []) ls)) ∙ lines_within fm ds (before ++ l ∷ []) ls f.2 now
 
 decls_within : (fm : Format) (before ds : List Decl) → DeclsFit fm before ds → is_beyond (of_items fm before []) ≡ false → is_beyond (of_items fm (before ++ ds) []) ≡ false
@@ -85,10 +85,27 @@ any_before (x ∷ qs) more h = elim (or_cases (is_above x) (list_any is_above qs
     or_true true = refl
     or_true false = refl
 
-many_events : (v : Verb) → merges_many v ≡ true → list_any is_above (verb_quantities v) ≡ true
-many_events (Merge events) h = ap (λ b. b || false) h
-many_events (MergeIgnore events) h = ap (λ b. b || false) h
-many_events v h = absurd (true≢false (sym h))
+none_many : (most : ℕ) → nat_lt most 0 ≡ true → ⊥
+none_many most h = let b : most < 0 = ltb-true most 0 h in omega arith
+
+many_merged : (format : Format) (v : Verb) → nat_lt (most_events format) (length (merged_events v)) ≡ true → list_any is_above (verb_quantities format v) ≡ true
+many_merged format (Merge events) h = ap (λ b. b || false) h
+many_merged format (MergeIgnore events) h = ap (λ b. b || false) h
+many_merged format v h = absurd (none_many (most_events format) h)
+
+many_behind : (format : Format) (on : List ℕ) → nat_lt (most_events format) (length on) ≡ true → list_any is_above (on_quantities format on) ≡ true
+many_behind format [] h = absurd (none_many (most_events format) h)
+many_behind format (e ∷ es) h = ap (λ b. b || false) h
+
+any_behind : (qs more : List QuantityValue) → list_any is_above more ≡ true → list_any is_above (qs ++ more) ≡ true
+any_behind [] more h = h
+any_behind (x ∷ qs) more h = or_right (is_above x) _ (any_behind qs more h)
+
+many_events : (format : Format) (l : Line) → names_many format l.verb l.on ≡ true → list_any is_above (event_quantities format l) ≡ true
+many_events format l h = elim (or_cases (nat_lt (most_events format) (length (merged_events l.verb))) _ h) [
+  | inl a ↦ any_before (verb_quantities format l.verb) (on_quantities format l.on) (many_merged format l.verb a)
+  | inr b ↦ any_behind (verb_quantities format l.verb) (on_quantities format l.on) (many_behind format l.on b)
+]
 
 -- which of the quantities is above, where those of the declarations are as before
 over : (t i c m k b n e x y z : Bool) → (x || (i || (c || (m || (k || (b || (y || z))))))) ≡ false → (t || (i || (c || (m || (k || (b || (n || e))))))) ≡ true → (t ≡ true) ⊎ ((n ≡ true) ⊎ (e ≡ true))
@@ -118,14 +135,14 @@ line_limit false false false false false false true h = refl
 line_limit false false false false false false false h = absurd (none-some reasons.Limit h)
 
 pub line_quantity : (g : GraphValue) (l : Line) → IsGraph g → line_fault g l ≡ Some reasons.Limit → (is_some (find is_above (line_quantities (with_line g l) l)) ≡ true) ⊎ (nat_lt MAX_TEXT (length (head (with_line g l))) ≡ true)
-line_quantity g l f h = elim (or_cases (merges_many l.verb) (is_beyond (with_line g l)) (line_limit _ _ _ _ _ _ (merges_many l.verb || is_beyond (with_line g l)) h)) [
-  | inl m ↦ inl (some_above (line_quantities (with_line g l) l) (ap (λ b. is_above (quantity (codes "operations") (length (with_line g l).lines) MAX_LINES) || b) (any_before (verb_quantities l.verb) _ (many_events l.verb m)) ∙ or_true (is_above (quantity (codes "operations") (length (with_line g l).lines) MAX_LINES))))
+line_quantity g l f h = elim (or_cases (names_many g.format l.verb l.on) (is_beyond (with_line g l)) (line_limit _ _ _ _ _ _ (names_many g.format l.verb l.on || is_beyond (with_line g l)) h)) [
+  | inl m ↦ inl (some_above (line_quantities (with_line g l) l) (ap (λ b. is_above (quantity (codes "operations") (length (with_line g l).lines) MAX_LINES) || b) (any_before (event_quantities g.format l) _ (many_events g.format l m)) ∙ or_true (is_above (quantity (codes "operations") (length (with_line g l).lines) MAX_LINES))))
   | inr o ↦ elim (over (nat_lt MAX_TEXT (length (head (with_line g l)))) (nat_lt MAX_INSTS (length (filter is_inst g.decls))) (nat_lt MAX_COLUMNS (length (columns g))) (nat_lt MAX_CELLS (cell_count g)) (nat_lt MAX_LOCKS (length (locks g))) (nat_lt MAX_BARRIERS (length (barriers g)))
       (nat_lt MAX_LINES (length (with_line g l).lines)) (nat_lt MAX_EDGES (length (edges (with_line g l)))) (nat_lt MAX_TEXT (length (head g))) (nat_lt MAX_LINES (length g.lines)) (nat_lt MAX_EDGES (length (edges g))) (graph_within g f) o) [
         | inl t ↦ inr t
         | inr r ↦ elim r [
-          | inl n ↦ inl (some_above (line_quantities (with_line g l) l) (ap (λ b. b || list_any is_above (verb_quantities l.verb ++ quantity (codes "edges") (length (edges (with_line g l))) MAX_EDGES ∷ [])) n))
-          | inr e ↦ inl (some_above (line_quantities (with_line g l) l) (ap (λ b. is_above (quantity (codes "operations") (length (with_line g l).lines) MAX_LINES) || b) (any_last (verb_quantities l.verb) (quantity (codes "edges") (length (edges (with_line g l))) MAX_EDGES) e) ∙ or_true (is_above (quantity (codes "operations") (length (with_line g l).lines) MAX_LINES))))
+          | inl n ↦ inl (some_above (line_quantities (with_line g l) l) (ap (λ b. b || list_any is_above (event_quantities g.format l ++ quantity (codes "edges") (length (edges (with_line g l))) MAX_EDGES ∷ [])) n))
+          | inr e ↦ inl (some_above (line_quantities (with_line g l) l) (ap (λ b. is_above (quantity (codes "operations") (length (with_line g l).lines) MAX_LINES) || b) (any_last (event_quantities g.format l) (quantity (codes "edges") (length (edges (with_line g l))) MAX_EDGES) e) ∙ or_true (is_above (quantity (codes "operations") (length (with_line g l).lines) MAX_LINES))))
         ]
       ]
 ]

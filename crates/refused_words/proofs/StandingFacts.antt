@@ -1,9 +1,9 @@
 -- Each word that a line spells stands in its place at some number.
-use Rattle.std.proofs.Common.{◌≡◌, ℕ, suc, ◌+◌, ◌-◌, ◌<◌, ◌≤◌, Bool, true, false, cond, ◌&&◌, ◌||◌, ◌⊎◌, inl, inr, List, [], ◌∷◌, ◌++◌, length, map, drop, refl, sym, ◌∙◌, ap, subst, arith}
-use Rattle.std.specs.Prelude.{Option, Some, None, option_map, slice_get, find, codes, zip, ◌==◌}
+use Rattle.std.proofs.Common.{◌≡◌, ℕ, suc, ◌+◌, ◌-◌, ◌<◌, ◌≤◌, Bool, true, false, cond, ◌||◌, ◌⊎◌, inl, inr, List, [], ◌∷◌, ◌++◌, length, map, drop, refl, sym, ◌∙◌, ap, subst, arith}
+use Rattle.std.specs.Prelude.{Option, Some, None, option_map, slice_get, find, codes, zip}
 use Rattle.std.specs.Option.{option_map_or}
 use Rattle.std.specs.List.{list_any}
-use Rattle.std.proofs.lemmas.Bool.{true≢false, and_parts, or_cases, eqb-true, cond-true, cond-false}
+use Rattle.std.proofs.lemmas.Bool.{true≢false, or_cases, cond-true, cond-false}
 use Rattle.std.proofs.lemmas.Option.{none-some, same_Some}
 use Rattle.std.proofs.lemmas.List.{length-map, length-drop}
 use Rattle.index_spaces.specs.declared.Op.{Op}
@@ -18,7 +18,7 @@ use Rattle.graph_terms.specs.declared.table.TheConstants.{KINDS}
 use Rattle.graph_terms.specs.Fits.{arrives_late}
 use Rattle.graph_terms.specs.Graph.{GraphValue}
 use Rattle.graph_terms.specs.Table.{kind_places, kind_words}
-use Rattle.graph_words.specs.Draft.{Place, NewName, SpaceName, EventName, Fields, Value, Count, Intervals, Placed, Draft, draft, as_place, form_of, has_on, on_placed, is_of_form, same_word, merge_draft, line_draft, decl_draft_after, decl_draft, space_draft, inst_draft, lock_draft, barrier_draft, barrier_with, op_of}
+use Rattle.graph_words.specs.Draft.{Place, NewName, SpaceName, EventName, Fields, Value, Count, Intervals, Placed, Draft, draft, as_place, form_of, has_on, events_placed, on_placed, is_of_form, same_word, merge_draft, line_draft, decl_draft_after, decl_draft, space_draft, inst_draft, lock_draft, barrier_draft, barrier_with, op_of}
 use Rattle.graph_reader.specs.FirstFault.{misnamed, misordered, draft_fault, item_fault, words_fault, or_else, is_empty}
 use Rattle.graph_reader.specs.Kinds.{HasPlaces, kind_draft}
 use Rattle.graph_reader.specs.Merges.{merge_verb}
@@ -193,23 +193,23 @@ module _ (g : GraphValue) (ws : List (List ℕ)) (t : Place → List ℕ → Boo
     fixed : 0 < length rest → length (kind_words kind) ≤ length (drop 2 ws)
     fixed l = let s : length rest ≡ length (drop 2 ws) - length (kind_words kind) = length-drop (length (kind_words kind)) (drop 2 ws) in omega arith
 
-    on_stands : (i : ℕ) → i ≡ length (kind_places kind) + 1 → i < length rest → has_on (form_of kind) rest ≡ true → t EventName (at rest i) ≡ true → Stands g ws t
-    on_stands i last l e h =
+    on_stands : (i : ℕ) → length (kind_places kind) < i → i < length rest → has_on g.format (form_of kind) rest ≡ true → t EventName (at rest i) ≡ true → Stands g ws t
+    on_stands i past l e h =
         let long : length (kind_words kind) ≤ length (drop 2 ws) = fixed (omega arith) in
         let below : i + length (kind_words kind) + 2 < length ws = word_below g ws operation kind other found long i l in
         stands_at g ws t (i + length (kind_words kind) + 2) EventName (at rest i) below
         (place_of_operation g.format ws (i + length (kind_words kind) + 2) below operation
-        ∙ (verb_at g.format ws (i + length (kind_words kind) + 2) (i + length (kind_words kind)) refl ∙ on_at g.format kind (drop 2 ws) other found long (i + length (kind_words kind)) i refl last e))
+        ∙ (verb_at g.format ws (i + length (kind_words kind) + 2) (i + length (kind_words kind)) refl ∙ on_at g.format kind (drop 2 ws) other found long (i + length (kind_words kind)) i refl past e))
         (sym (word_at g ws operation kind other found long i))
         h
 
-    on_shows : (b : Bool) → has_on (form_of kind) rest ≡ b → passes t (cond b ((EventName, at rest (length (form_of kind).places + 1)) ∷ []) []) ≡ true → Stands g ws t
+    on_shows : (b : Bool) → has_on g.format (form_of kind) rest ≡ b → passes t (events_placed (cond b (drop (length (form_of kind).places + 1) rest) [])) ≡ true → Stands g ws t
     on_shows false e h = absurd (true≢false (sym h))
     on_shows true e h =
-        let both = and_parts ((form_of kind).takes_on) _ e in
-        let sized : length rest ≡ length (form_of kind).places + 2 = eqb-true (length rest) (length (form_of kind).places + 2) (and_parts (length rest == length (form_of kind).places + 2) _ both.1).0 in
-        let l : length (form_of kind).places + 1 < length rest = omega arith in
-        on_stands (length (form_of kind).places + 1) (ap (λ m. m + 1) (length-map (kind_places kind) as_place)) l e (or_last (t EventName (at rest (length (form_of kind).places + 1))) h)
+        let m : ℕ = length (form_of kind).places + 1 in
+        let r = some_of t EventName (drop m rest) h in
+        let places : length (form_of kind).places ≡ length (kind_places kind) = length-map (kind_places kind) as_place in
+        on_stands (m + r.0) (omega arith) (below_behind rest m r.0 (m + r.0) refl r.1) e (ap (t EventName) (sym (at_behind rest m r.0 (m + r.0) refl)) ∙ r.2)
 
     place_stands : (i : ℕ) → i < length (kind_places kind) → i < length rest → option_map_or (λ p. t p (at rest i)) (option_map as_place (slice_get (kind_places kind) i)) false ≡ true → Stands g ws t
     place_stands i within l h =
@@ -221,11 +221,11 @@ module _ (g : GraphValue) (ws : List (List ℕ)) (t : Place → List ℕ → Boo
         )
 
     kind_shows : Shows g ws t (Some (kind_draft g kind (at ws 0) rest))
-    kind_shows h = elim (or_cases (t NewName (at ws 0)) (passes t (zip (map as_place (kind_places kind)) rest ++ on_placed (form_of kind) rest)) h) [
+    kind_shows h = elim (or_cases (t NewName (at ws 0)) (passes t (zip (map as_place (kind_places kind)) rest ++ on_placed g.format (form_of kind) rest)) h) [
       | inl a ↦ name_shows a
-      | inr b ↦ elim (either_part t (zip (map as_place (kind_places kind)) rest) (on_placed (form_of kind) rest) b) [
+      | inr b ↦ elim (either_part t (zip (map as_place (kind_places kind)) rest) (on_placed g.format (form_of kind) rest) b) [
         | inl c ↦ (let r = some_in t (kind_places kind) rest c in place_stands r.0 r.1 r.2 r.3)
-        | inr d ↦ on_shows (has_on (form_of kind) rest) refl d
+        | inr d ↦ on_shows (has_on g.format (form_of kind) rest) refl d
       ]
     ]
 

@@ -4,15 +4,16 @@ use Rattle.std.specs.Option.{option_map_or}
 use Rattle.std.proofs.Common.{inl, inr}
 use Rattle.index_spaces.specs.Space.{space_size}
 use Rattle.index_spaces.specs.declared.limits.TheConstants.{MAX_INTERVALS, MAX_POINTS}
-use Rattle.graph_terms.specs.declared.limits.TheConstants.{MAX_INSTS, MAX_COLUMNS, MAX_CELLS, MAX_LOCKS, MAX_BARRIERS, MAX_LINES, MAX_EDGES, MAX_EVENTS}
+use Rattle.graph_terms.specs.declared.limits.TheConstants.{MAX_INSTS, MAX_COLUMNS, MAX_CELLS, MAX_LOCKS, MAX_BARRIERS, MAX_LINES, MAX_EDGES}
 use Rattle.graph_terms.specs.declared.decl.Decl.{Decl}
 use Rattle.graph_terms.specs.declared.decl.Decl.TheVariants.{Space, Inst, Lock, Barrier}
+use Rattle.graph_terms.specs.declared.format.Format.{Format}
 use Rattle.graph_terms.specs.declared.verb.Line.{Line}
 use Rattle.graph_terms.specs.declared.verb.Verb.{Verb}
 use Rattle.graph_terms.specs.declared.verb.Verb.TheVariants.{Merge, MergeIgnore}
 use Rattle.graph_terms.specs.Graph.{GraphValue, columns, locks, barriers, space_at}
 use Rattle.graph_terms.specs.Edges.{edges}
-use Rattle.graph_terms.specs.Fits.{is_inst, cell_count, with_decl, with_line}
+use Rattle.graph_terms.specs.Fits.{is_inst, cell_count, with_decl, with_line, most_events}
 use Rattle.graph_words.specs.Draft.{Draft, draft}
 use Rattle.refused_words.specs.declared.limits.Quantity.{Quantity}
 
@@ -45,14 +46,21 @@ decl_quantities g (Inst name space fields) =
 decl_quantities g (Lock name) = quantity (codes "reservations") (length (locks g)) MAX_LOCKS ∷ []
 decl_quantities g (Barrier name count op first) = quantity (codes "barriers") (length (barriers g)) MAX_BARRIERS ∷ []
 
--- of a merge, and of a graph at whose end a line stands
-abbrev pub verb_quantities : Verb → List QuantityValue
-verb_quantities (Merge events) = quantity (codes "events of a merge") (length events) MAX_EVENTS ∷ []
-verb_quantities (MergeIgnore events) = quantity (codes "events of a merge") (length events) MAX_EVENTS ∷ []
-verb_quantities _ = []
+-- of a merge, of the events behind `on`, and of a graph at whose end a line stands
+abbrev pub verb_quantities : Format → Verb → List QuantityValue
+verb_quantities format (Merge events) = quantity (codes "events of a merge") (length events) (most_events format) ∷ []
+verb_quantities format (MergeIgnore events) = quantity (codes "events of a merge") (length events) (most_events format) ∷ []
+verb_quantities format _ = []
+
+abbrev pub on_quantities : Format → List ℕ → List QuantityValue
+on_quantities format [] = []
+on_quantities format (e ∷ es) = quantity (codes "events behind on") (length (e ∷ es)) (most_events format) ∷ []
+
+abbrev pub event_quantities : Format → Line → List QuantityValue
+event_quantities format l = verb_quantities format l.verb ++ on_quantities format l.on
 
 abbrev pub line_quantities : GraphValue → Line → List QuantityValue
-line_quantities g l = quantity (codes "operations") (length g.lines) MAX_LINES ∷ verb_quantities l.verb ++ quantity (codes "edges") (length (edges g)) MAX_EDGES ∷ []
+line_quantities g l = quantity (codes "operations") (length g.lines) MAX_LINES ∷ event_quantities g.format l ++ quantity (codes "edges") (length (edges g)) MAX_EDGES ∷ []
 
 -- of a graph with a declaration or a line at its end, those that it is part of
 abbrev pub item_quantities : GraphValue → Decl ⊎ Line → List QuantityValue

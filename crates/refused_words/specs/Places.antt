@@ -39,13 +39,13 @@ decl_place w k =
     (cond (same_word w (codes "lock")) (lock_place k)
     (cond (same_word w (codes "barrier")) (barrier_place k) None)))
 
--- a word behind the fixed ones of a kind: one for each place, and then `on` and an event
-abbrev pub behind_kind : Kind → List (List ℕ) → ℕ → Option Place
-behind_kind kind rest k = cond (nat_lt k (length (kind_places kind))) (option_map as_place (slice_get (kind_places kind) k))
-    (cond ((k - length (kind_places kind) == 1) && has_on (form_of kind) rest) (Some EventName) None)
+-- a word behind the fixed ones of a kind: one for each place, and then `on` and its events
+abbrev pub behind_kind : Format → Kind → List (List ℕ) → ℕ → Option Place
+behind_kind format kind rest k = cond (nat_lt k (length (kind_places kind))) (option_map as_place (slice_get (kind_places kind) k))
+    (cond (nat_lt (length (kind_places kind)) k && has_on format (form_of kind) rest) (Some EventName) None)
 
-abbrev pub kind_place : Kind → List (List ℕ) → ℕ → Option Place
-kind_place kind ws k = cond (nat_lt k (length (kind_words kind)) || nat_lt (length ws) (length (kind_words kind))) None (behind_kind kind (drop (length (kind_words kind)) ws) (k - length (kind_words kind)))
+abbrev pub kind_place : Format → Kind → List (List ℕ) → ℕ → Option Place
+kind_place format kind ws k = cond (nat_lt k (length (kind_words kind)) || nat_lt (length ws) (length (kind_words kind))) None (behind_kind format kind (drop (length (kind_words kind)) ws) (k - length (kind_words kind)))
 
 abbrev pub is_merge : List (List ℕ) → Bool
 is_merge ws = same_word (slice_index_or ws 0 []) (codes "merge") || same_word (slice_index_or ws 0 []) (codes "mergei")
@@ -53,7 +53,7 @@ is_merge ws = same_word (slice_index_or ws 0 []) (codes "merge") || same_word (s
 -- a word behind the sign: those of a merge are events
 abbrev pub verb_place : Format → List (List ℕ) → ℕ → Option Place
 verb_place format ws k = cond (is_merge ws) (cond (k == 0) None (Some EventName))
-    (option_map_or (λ kind. kind_place kind ws k) (find (λ kind. is_of_form format ws (form_of kind)) KINDS) None)
+    (option_map_or (λ kind. kind_place format kind ws k) (find (λ kind. is_of_form format ws (form_of kind)) KINDS) None)
 
 abbrev pub operation_place : Format → List (List ℕ) → ℕ → Option Place
 operation_place format ws k = cond (k == 0) (Some NewName) (cond (k == 1) None (verb_place format (drop 2 ws) (k - 2)))

@@ -3,6 +3,7 @@
 ghost use Rattle.basics.specs.Words.{contents};
 ghost use Rattle.std.specs.Prelude.{◌≡◌, ℕ, ◌≤◌, ◌+◌, Bool, List, Some, None, codes, drop, length, option_map, is_some};
 ghost use Rattle.graph_terms.specs.Graph.{is_phase_of};
+ghost use Rattle.graph_terms.specs.Fits.{most_events};
 ghost use Rattle.graph_terms.specs.Edges.{edges, last_place, verb_edges};
 ghost use Rattle.graph_words.specs.Draft.{merge_draft};
 ghost use Rattle.graph_reader.specs.Kinds.{HasPlaces, kind_draft, kind_verb};
@@ -11,12 +12,12 @@ ghost use Rattle.refused_words.specs.Limits.{quantity_value, quantity, limit_in}
 
 use crate::limits::{Quantity, first_above, one_if, with_bound};
 use graph_meaning::laws::edges_between_lines;
-use graph_model::graph::Graph;
+use graph_model::graph::{Graph, most_events};
 use graph_reader::seen::see;
-use graph_terms::limits::{MAX_EDGES, MAX_EVENTS, MAX_LINES};
+use graph_terms::limits::{MAX_EDGES, MAX_LINES};
 use graph_terms::table::{Kind, Place};
 use graph_terms::verb::Verb;
-use graph_words::words::{has_on, word};
+use graph_words::words::{on_events, word};
 
 /// Of a merge, by the words behind its sign.
 pub(crate) fn of_merge(graph: &Graph, words: &[&[u8]]) -> Option<Quantity>
@@ -26,7 +27,7 @@ pub(crate) fn of_merge(graph: &Graph, words: &[&[u8]]) -> Option<Quantity>
         return None;
     }
     let count = words.len() as u64 - 1;
-    let merged = with_bound(b"events of a merge", count, u64::from(MAX_EVENTS));
+    let merged = events(graph, b"events of a merge", count);
     first_above(&[operations(graph), merged, edges(graph, count)])
 }
 
@@ -35,8 +36,17 @@ pub(crate) fn of_kind(graph: &Graph, kind: Kind, rest: &[&[u8]]) -> Option<Quant
     requires { HasPlaces kind (contents rest.now) }
     ensures { (name : List ℕ) → option_map quantity_value result ≡ limit_in graph.now (Some (kind_draft graph.now kind name (contents rest.now))) }
 {
-    let given = edges_of_kind(graph, kind, rest) + one_if(has_on(kind, rest));
-    first_above(&[operations(graph), edges(graph, given)])
+    let count = on_events(graph.format(), kind, rest).len() as u64;
+    let given = edges_of_kind(graph, kind, rest) + count;
+    let behind = events(graph, b"events behind on", count);
+    first_above(&[operations(graph), behind, edges(graph, given)])
+}
+
+/// So many events that a line names.
+fn events(graph: &Graph, name: &'static [u8], count: u64) -> Quantity
+    ensures { quantity_value result ≡ quantity name.now count (most_events graph.now.format) }
+{
+    with_bound(name, count, u64::from(most_events(graph.format())))
 }
 
 /// The operations of a graph with one more.
@@ -48,7 +58,7 @@ fn operations(graph: &Graph) -> Quantity
 
 /// The edges of a graph with so many more.
 fn edges(graph: &Graph, more: u64) -> Quantity
-    requires { more ≤ 9223372036854775807 }
+    requires { more ≤ 9223372036854775808 }
     ensures { quantity_value result ≡ quantity (codes "edges") (length (edges graph.now) + more) MAX_EDGES }
 {
     with_bound(b"edges", edge_count(graph) + more, MAX_EDGES)

@@ -148,31 +148,31 @@ fn verb_place(format: Format, words: &[&[u8]], k: usize) -> Option<WordPlace>
         return if k == 0 { None } else { Some(WordPlace::Event) };
     }
     match kind_of(format, words) {
-        Some(kind) => kind_place(kind, words, k),
+        Some(kind) => kind_place(format, kind, words, k),
         None => None,
     }
 }
 
 /// In which place a word of a line of a kind stands.
-fn kind_place(kind: Kind, words: &[&[u8]], k: usize) -> Option<WordPlace>
-    ensures { option_map place_value result ≡ kind_place kind (contents words.now) k }
+fn kind_place(format: Format, kind: Kind, words: &[&[u8]], k: usize) -> Option<WordPlace>
+    ensures { option_map place_value result ≡ kind_place format kind (contents words.now) k }
 {
     let fixed = kind.words().len();
     if k < fixed || words.len() < fixed {
         return None;
     }
-    place_behind(kind, behind(words, fixed), k - fixed)
+    place_behind(format, kind, behind(words, fixed), k - fixed)
 }
 
 /// In which place a word behind the fixed ones of a kind stands.
-fn place_behind(kind: Kind, rest: &[&[u8]], k: usize) -> Option<WordPlace>
-    ensures { option_map place_value result ≡ behind_kind kind (contents rest.now) k }
+fn place_behind(format: Format, kind: Kind, rest: &[&[u8]], k: usize) -> Option<WordPlace>
+    ensures { option_map place_value result ≡ behind_kind format kind (contents rest.now) k }
 {
     let places = kind.places();
     if k < places.len() {
         return Some(WordPlace::Of(places[k]));
     }
-    if k - places.len() == 1 && has_on(kind, rest) {
+    if k > places.len() && has_on(format, kind, rest) {
         return Some(WordPlace::Event);
     }
     None

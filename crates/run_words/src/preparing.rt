@@ -16,10 +16,10 @@ ghost use Rattle.run_words.specs.Rule.{IsIssueState};
 ghost use Rattle.run_words.specs.Words.{graph_of, events_of, IsAt, numbers_of, splits_of};
 
 use crate::base::Base;
+use crate::closing_room::ClosingRoom;
 use crate::content::{Content, IssueState};
 use crate::moves::APART;
 use crate::seats::WordSeat;
-use crate::spare::Spare;
 use crate::words::Words;
 use atomic_table::{Refused, Table};
 use checked_graph::Checked;
@@ -275,13 +275,17 @@ impl<'g> Words<'g> {
         let graph = checked.graph();
         let _ = checked.need();
         let words = first_words(alloc, graph)?;
-        let mut spare = Spare::prepare(alloc, graph, slots)?;
+        let mut closing_room = ClosingRoom::prepare(alloc, graph, slots)?;
         let (events, issue_turn, seat) = new_issue_turn(alloc, slots, graph.lines())?;
-        let contents = first_slots(alloc, graph, &mut spare.homes, issue_turn)?;
+        let contents = first_slots(alloc, graph, &mut closing_room.homes, issue_turn)?;
         let base = Base { checked, events };
         match Table::new(alloc, words.as_slice(), contents, &base) {
             Ok((table, inner)) => Ok((
-                Words { base, table, spare },
+                Words {
+                    base,
+                    table,
+                    closing_room,
+                },
                 WordSeat {
                     inner,
                     events: seat,

@@ -7,12 +7,12 @@ use Rattle.std.specs.Option.{option_map_or}
 use Rattle.graph_terms.specs.Graph.{GraphValue, is_acquire_of}
 use Rattle.graph_terms.specs.Reservations.{Acquires}
 use Rattle.graph_terms.proofs.Public.{passes_below, release_names}
-use Rattle.race_sweeps.specs.declared.held.Held.{Held}
+use Rattle.race_sweeps.specs.declared.line_sections.Held.{Held}
 use Rattle.race_sweeps.specs.Held.{acquire_in}
-use Rattle.section_sweeps.specs.declared.table.Table.{Table}
+use Rattle.section_sweeps.specs.declared.lookups.Table.{Table}
 use Rattle.section_sweeps.specs.Found.{AreDoubted, AreFound}
 use Rattle.section_sweeps.specs.Table.{IsTable}
-use Rattle.section_sweeps.specs.declared.found.Found.{Found}
+use Rattle.section_sweeps.specs.declared.found_sections.Found.{Found}
 use Rattle.section_sweeps.specs.Sections.{AreSections, AreHeldSoFar, IsGrown, IsSectionKept}
 
 -- a section that was kept is kept still

@@ -11,7 +11,7 @@ use Rattle.graph_terms.specs.Graph.{GraphValue, locks}
 use Rattle.graph_terms.specs.Reservations.{Acquires}
 use Rattle.graph_meaning.specs.Rules.{Section}
 use Rattle.graph_terms.proofs.Public.{acquire_one}
-use Rattle.race_sweeps.specs.declared.held.Held.{Held}
+use Rattle.race_sweeps.specs.declared.line_sections.Held.{Held}
 use Rattle.race_sweeps.specs.Held.{acquire_in}
 use Rattle.race_sweeps.proofs.Lists.{set_same, set_other, pushed_cases}
 use Rattle.section_sweeps.specs.Sections.{AreHeldSoFar, IsGrown, IsKept}

@@ -11,7 +11,7 @@ use Rattle.graph_terms.specs.Graph.{GraphValue}
 use Rattle.graph_terms.specs.Reservations.{Acquires}
 use Rattle.graph_meaning.specs.Rules.{Section}
 use Rattle.race_sweeps.specs.Marks.{bit_in}
-use Rattle.race_sweeps.specs.declared.held.Held.{Held}
+use Rattle.race_sweeps.specs.declared.line_sections.Held.{Held}
 use Rattle.race_sweeps.proofs.Bits.{bit_in-and, bit_in-not}
 use Rattle.race_sweeps.proofs.Walking.{none_left}
 use Rattle.section_sweeps.specs.declared.group.Group.{Group}

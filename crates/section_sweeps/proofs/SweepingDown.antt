@@ -6,7 +6,7 @@ use Rattle.graph_terms.specs.declared.verb.Edge.{Edge}
 use Rattle.graph_terms.specs.Graph.{GraphValue}
 use Rattle.graph_terms.specs.Edges.{edges}
 use Rattle.section_sweeps.specs.declared.passing.Passing.{Passing}
-use Rattle.section_sweeps.specs.declared.table.Table.{Table}
+use Rattle.section_sweeps.specs.declared.lookups.Table.{Table}
 use Rattle.section_sweeps.specs.Table.{IsTable}
 use Rattle.section_sweeps.specs.Passing.{HasBit, HasEither, HaveNone, AreWithin, IsSized, IsFromTargets, AreFromBehind, AreSourcesFrom}
 use Rattle.section_sweeps.proofs.PassingSteps.{AreDownTo, down_begins, down_step, sources_step, either_cases}

@@ -4,9 +4,9 @@ use Rattle.graph_terms.specs.Graph.{GraphValue}
 use Rattle.graph_terms.specs.Reservations.{Acquires, Releases}
 use Rattle.graph_meaning.specs.Rules.{ReleasedAt, SectionAt, DescendsAt}
 use Rattle.race_sweeps.specs.Settled.{is_noted}
-use Rattle.section_sweeps.specs.declared.found.Found.{Found}
-use Rattle.section_sweeps.specs.declared.found.Sections.{Sections}
-use Rattle.section_sweeps.specs.declared.found.Sections.TheVariants.{Kept, Doubted}
+use Rattle.section_sweeps.specs.declared.found_sections.Found.{Found}
+use Rattle.section_sweeps.specs.declared.found_sections.Sections.{Sections}
+use Rattle.section_sweeps.specs.declared.found_sections.Sections.TheVariants.{Kept, Doubted}
 use Rattle.section_sweeps.specs.Sections.{AreSections, AreHeldSoFar, IsSectionKept}
 
 -- the rules of sections hold of an acquire

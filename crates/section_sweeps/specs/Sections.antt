@@ -4,7 +4,7 @@ use Rattle.std.specs.Global.{Global}
 use Rattle.graph_terms.specs.Graph.{GraphValue, locks}
 use Rattle.graph_meaning.specs.Rules.{Everywhere, EverywhereTwice, ReleasedAt, SectionAt, DescendsAt, Section}
 use Rattle.graph_terms.specs.Reservations.{Releases}
-use Rattle.race_sweeps.specs.declared.held.Held.{Held}
+use Rattle.race_sweeps.specs.declared.line_sections.Held.{Held}
 use Rattle.race_sweeps.specs.Held.{IsHeld, acquire_in}
 
 -- the rules of sections hold, and this is where the lines lie

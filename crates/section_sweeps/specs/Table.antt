@@ -5,7 +5,7 @@ use Rattle.graph_terms.specs.Graph.{GraphValue}
 use Rattle.graph_terms.specs.Edges.{edges}
 use Rattle.graph_terms.specs.Fits.{IsGraph}
 use Rattle.section_sweeps.specs.Releases.{AreReleases}
-use Rattle.section_sweeps.specs.declared.table.Table.{Table}
+use Rattle.section_sweeps.specs.declared.lookups.Table.{Table}
 
 -- each line has a place, and each place a line
 pub record ArePlaced (n : ℕ) (lines places : List ℕ) : Type 0 where

@@ -7,9 +7,9 @@ ghost use Rattle.section_sweeps.specs.Group.{AreOwn};
 ghost use Rattle.section_sweeps.specs.Passing.{AreFromBefore, AreFromBehind, ArePassedDown, ArePassedUp, IsSized};
 ghost use Rattle.section_sweeps.specs.Table.{IsTable};
 
+use crate::lookups::Table;
 use crate::passing::Passing;
 use crate::sweep::{sweep_back, sweep_up};
-use crate::table::Table;
 use graph_model::graph::Graph;
 use index_spaces::NoMemory;
 use std::alloc::Global;

@@ -8,16 +8,16 @@ ghost use Rattle.section_sweeps.specs.Passing.{AreFromBefore, HasBit, IsSized};
 ghost use Rattle.section_sweeps.specs.Sections.{AreHeldSoFar, IsGrown, IsSectionKept};
 ghost use Rattle.section_sweeps.specs.Table.{IsTable};
 
-use crate::kept::keep_all;
+use crate::kept_acquires::keep_all;
+use crate::lookups::Table;
 use crate::passing::{Passing, has_bit};
 use crate::reservations::acquired;
 use crate::rules::{descends, is_dead_phase};
 use crate::sweep::{sweep_down, sweep_up};
-use crate::table::Table;
 use graph_model::graph::Graph;
 use index_spaces::NoMemory;
 use index_spaces::room::push;
-use race_sweeps::held::Held;
+use race_sweeps::line_sections::Held;
 use std::alloc::Global;
 
 /// The acquires of a group: bit `b` is that of acquire `b`. Which of them have paths to a line,

@@ -3,22 +3,22 @@
 #![tactic(auto)]
 
 pub mod blocks;
-pub mod found;
+pub mod found_sections;
 mod group;
-pub mod kept;
+pub mod kept_acquires;
+pub mod lookups;
 pub mod passing;
 pub mod releases;
 pub mod reservations;
 pub mod rules;
 mod sweep;
-pub mod table;
 
 ghost use Rattle.std.specs.Prelude.{IfOk, IfSome};
 ghost use Rattle.race_sweeps.specs.Placed.{IsOrder};
 ghost use Rattle.section_sweeps.specs.Found.{AreSectionsFound};
 
-use crate::found::{Found, Sections};
-use crate::table::Table;
+use crate::found_sections::{Found, Sections};
+use crate::lookups::Table;
 use graph_model::graph::Graph;
 use index_spaces::NoMemory;
 use index_spaces::room::filled;

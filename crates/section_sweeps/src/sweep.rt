@@ -7,8 +7,8 @@ ghost use Rattle.race_sweeps.specs.Marks.{bit_in};
 ghost use Rattle.section_sweeps.specs.Passing.{HasBit, HasEither, HaveNone, AreWithin, IsSized, AreFromBefore, AreFromBehind, ArePassedUp, ArePassedDown, AreSourcesFrom};
 ghost use Rattle.section_sweeps.specs.Table.{IsTable};
 
+use crate::lookups::Table;
 use crate::passing::Passing;
-use crate::table::Table;
 use graph_model::graph::Graph;
 
 /// Passes bits forward, from a place up to another.

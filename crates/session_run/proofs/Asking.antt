@@ -119,7 +119,7 @@ pub no_answer_there : (g : GraphValue) (l : Link) → op_place g l ≡ None → 
 no_answer_there g l h = ap (λ (o : Option ℕ). option_map_or (λ k. answer_for (eval_end g k)) o Pending) h
 
 pub place_within : (g : GraphValue) (l : Link) (i : ℕ) → op_place g l ≡ Some i → i < length g.lines
-place_within g l i h = (position-Some (λ (x : GraphLine). bytes_eq x.name l.op) g.lines i (record { name = l.op; verb = User; on = None }) h).0
+place_within g l i h = (position-Some (λ (x : GraphLine). bytes_eq x.name l.op) g.lines i (record { name = l.op; verb = User; on = [] }) h).0
 
 pub graph_within : (r : Running) (l : Link) (k : ℕ) (x : RanGraph) → graph_place r.graphs.items l ≡ Some k → x ≡ slice_index_or r.graphs.items k x → slice_get r.graphs.items k ≡ Some x
 graph_within r l k x h e = slice_get-get_or r.graphs.items k x (position-Some (named l.graph) r.graphs.items k x h).0 ∙ ap (λ y. Some y) (sym e)

@@ -10,11 +10,12 @@ use Rattle.graph_terms.specs.declared.verb.Line.{Line}
 use Rattle.graph_terms.specs.declared.verb.Verb.{Verb}
 use Rattle.graph_terms.specs.declared.verb.Verb.TheVariants.{Trigger, Cancel}
 use Rattle.graph_terms.specs.declared.format.Format.{Format}
+use Rattle.graph_terms.specs.declared.format.Format.TheVariants.{One, Two, Three}
 use Rattle.graph_terms.specs.declared.why.Why.TheVariants as why
 use Rattle.graph_terms.specs.Graph.{GraphValue, columns, locks, barriers, decl_name, line_passes, is_user, ends_user}
 use Rattle.graph_terms.specs.Edges.{edges, line_edges}
 use Rattle.graph_terms.specs.Spelling.{head, spelled, line_words, line_name}
-use Rattle.graph_terms.specs.Fits.{first_reason, is_used, with_line, line_fault, line_tests, cell_count, is_inst, is_beyond, format_lacks}
+use Rattle.graph_terms.specs.Fits.{first_reason, is_used, with_line, line_fault, line_tests, cell_count, is_inst, is_beyond, on_unlike, names_many, format_lacks}
 use Rattle.graph_terms.proofs.Public.{head_with_line, edges_push}
 use Rattle.graph_words.specs.Draft.{line_number}
 use Rattle.graph_reader.specs.FirstFault.{is_line_name}
@@ -104,10 +105,10 @@ four_words a c n =
     let z : length (c ++ 32 ∷ n) ≡ length c + suc (length n) = length-append c (32 ∷ n) in
     omega (arith, x, y, z)
 
-trigger_size : (g : GraphValue) (name : List ℕ) (u : ℕ) → length (spelled (line_words g (record { name = name; verb = Trigger u; on = None }))) ≡ length name + length (line_name g u) + 12
+trigger_size : (g : GraphValue) (name : List ℕ) (u : ℕ) → length (spelled (line_words g (record { name = name; verb = Trigger u; on = [] }))) ≡ length name + length (line_name g u) + 12
 trigger_size g name u = let e = four_words name (codes "trigger") (line_name g u) in omega (arith, e)
 
-cancel_size : (g : GraphValue) (name : List ℕ) (u : ℕ) → length (spelled (line_words g (record { name = name; verb = Cancel u; on = None }))) ≡ length name + length (line_name g u) + 11
+cancel_size : (g : GraphValue) (name : List ℕ) (u : ℕ) → length (spelled (line_words g (record { name = name; verb = Cancel u; on = [] }))) ≡ length name + length (line_name g u) + 11
 cancel_size g name u = let e = four_words name (codes "cancel") (line_name g u) in omega (arith, e)
 
 -- the lines of graphs with more lines
@@ -122,18 +123,32 @@ edges_count g xs l = ap (λ h. length (edges h)) (sym (pushed g xs l)) ∙ (ap l
 
 -- the tests of the line of a link
 abbrev pub link_as : Link → Verb → Line
-link_as l v = record { name = l.line; verb = v; on = None }
-
-lacks_no_trigger : (fm : Format) (u : ℕ) → format_lacks fm (Trigger u) ≡ false
-lacks_no_trigger fm u = refl
-
-lacks_no_cancel : (fm : Format) (u : ℕ) → format_lacks fm (Cancel u) ≡ false
-lacks_no_cancel fm u = refl
+link_as l v = record { name = l.line; verb = v; on = [] }
 
 -- a trigger or a cancel of a user line
 abbrev pub ender : Bool → ℕ → Verb
 ender true u = Trigger u
 ender false u = Cancel u
+
+-- each format has such a line without events behind `on`
+abbrev lacks_line : Format → Verb → Bool
+lacks_line fm v = on_unlike fm v [] || format_lacks fm v
+
+lacks_no_ender : (fm : Format) (b : Bool) (u : ℕ) → lacks_line fm (ender b u) ≡ false
+lacks_no_ender One true u = refl
+lacks_no_ender Two true u = refl
+lacks_no_ender Three true u = refl
+lacks_no_ender One false u = refl
+lacks_no_ender Two false u = refl
+lacks_no_ender Three false u = refl
+
+names_none : (fm : Format) (b : Bool) (u : ℕ) → names_many fm (ender b u) [] ≡ false
+names_none One true u = refl
+names_none Two true u = refl
+names_none Three true u = refl
+names_none One false u = refl
+names_none Two false u = refl
+names_none Three false u = refl
 
 used_less : (g : GraphValue) (ts ks : List Line) (w : List ℕ) → IsLeaner g ts ks → is_used (longer g ts) w ≡ false → is_used (longer g ks) w ≡ false
 used_less g ts ks w r h =
@@ -219,14 +234,14 @@ fits_as g ks l u true used ends passes near beyond = none_where_each_fails (line
   or_from (is_used (longer g ks) l.line) (list_any (ends_it u) (g.lines ++ ks) || false) used (or_from (list_any (ends_it u) (g.lines ++ ks)) false ends refl),
   (
     or_from (nat_le (length (g.lines ++ ks)) u || false) false (or_from (nat_le (length (g.lines ++ ks)) u) false (far_off g ks u near) refl) refl,
-    (or_from (not (line_passes is_user (longer g ks) u)) (format_lacks g.format (Trigger u)) (ap not passes) (lacks_no_trigger g.format u), (refl, (refl, (refl, (beyond, tt))))),
+    (or_from (not (line_passes is_user (longer g ks) u)) (lacks_line g.format (Trigger u)) (ap not passes) (lacks_no_ender g.format true u), (refl, (refl, (refl, (or_from (names_many g.format (Trigger u) []) (is_beyond (with_line (longer g ks) (link_as l (Trigger u)))) (names_none g.format true u) beyond, tt))))),
   ),
 )
 fits_as g ks l u false used ends passes near beyond = none_where_each_fails (line_tests (longer g ks) (link_as l (Cancel u))) (
   or_from (is_used (longer g ks) l.line) (list_any (ends_it u) (g.lines ++ ks) || false) used (or_from (list_any (ends_it u) (g.lines ++ ks)) false ends refl),
   (
     or_from (nat_le (length (g.lines ++ ks)) u || false) false (or_from (nat_le (length (g.lines ++ ks)) u) false (far_off g ks u near) refl) refl,
-    (or_from (not (line_passes is_user (longer g ks) u)) (format_lacks g.format (Cancel u)) (ap not passes) (lacks_no_cancel g.format u), (refl, (refl, (refl, (beyond, tt))))),
+    (or_from (not (line_passes is_user (longer g ks) u)) (lacks_line g.format (Cancel u)) (ap not passes) (lacks_no_ender g.format false u), (refl, (refl, (refl, (or_from (names_many g.format (Cancel u) []) (is_beyond (with_line (longer g ks) (link_as l (Cancel u)))) (names_none g.format false u) beyond, tt))))),
   ),
 )
 
@@ -245,8 +260,8 @@ fits_there g ts l u none =
     record {
       unused = twice.0;
       open_user = (or_parts (list_any (ends_it u) (g.lines ++ ts)) false twice.1).0;
-      passes = flip (line_passes is_user T u) (or_parts (not (line_passes is_user T u)) (format_lacks g.format (Trigger u)) h.1.1.0).0;
-      beyond = h.1.1.1.1.1.1.0;
+      passes = flip (line_passes is_user T u) (or_parts (not (line_passes is_user T u)) (lacks_line g.format (Trigger u)) h.1.1.0).0;
+      beyond = (or_parts (names_many g.format (Trigger u) []) (is_beyond (with_line T (link_as l (Trigger u)))) h.1.1.1.1.1.1.0).1;
     }
 
 -- the link fits after the second lines, whichever line it adds

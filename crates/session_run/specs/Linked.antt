@@ -30,7 +30,7 @@ link_answer before l = option_map_or (λ (x : LinkedGraph). answer_at x.graph l.
 
 -- the line of a link, taken as a cancel of its user line
 abbrev pub cancel_line : GraphValue → Link → Line
-cancel_line g l = record { name = l.line; verb = Cancel (line_number g l.user); on = None }
+cancel_line g l = record { name = l.line; verb = Cancel (line_number g l.user); on = [] }
 
 -- a graph with a link at its end, by the answer of its operation: a trigger, a cancel, or nothing
 abbrev pub with_answer : GraphValue → Link → Answer → GraphValue

@@ -9,13 +9,20 @@ ghost use Rattle.session_run.specs.Linked.{cancel_line, with_answer};
 
 use event_table::Answer;
 use graph_model::graph::Graph;
+use graph_terms::lists::EventList;
 use graph_terms::verb::{Line, Verb};
 use index_spaces::NoMemory;
 use session_text::{Link, find_line};
+use std::alloc::Global;
 
 /// Puts the line of a link at the end, by the answer of its operation: a trigger or a cancel of its user
 /// line, or nothing.
-pub(crate) fn add_link(graph: &mut Graph, link: &Link, answer: Answer) -> Result<(), NoMemory>
+pub(crate) fn add_link(
+    alloc: Global,
+    graph: &mut Graph,
+    link: &Link,
+    answer: Answer,
+) -> Result<(), NoMemory>
     requires named { IsTrue (is_name_in graph.old.format link.now.line) }
     requires user { is_line_name graph.old link.now.user ≡ true }
     requires trigger { line_fault graph.old (trigger_line graph.old link.now) ≡ None }
@@ -33,7 +40,7 @@ pub(crate) fn add_link(graph: &mut Graph, link: &Link, answer: Answer) -> Result
     let line = Line {
         name: link.line,
         verb,
-        on: None,
+        on: EventList::new(alloc),
     };
     line.is_well_formed();
     graph.add_line(line)

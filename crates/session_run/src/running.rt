@@ -142,7 +142,7 @@ impl Running {
     }
 
     /// The next graph with its links as lines, each by what is answered for its operation.
-    pub(crate) fn link(&mut self, entry: Entry) -> Result<Linked, NoMemory>
+    pub(crate) fn link(&mut self, alloc: Global, entry: Entry) -> Result<Linked, NoMemory>
         requires running { IsRunning self.old }
         requires fits { CanLink entry.graph entry.links }
         ensures running { IsRunning self.new }
@@ -156,7 +156,7 @@ impl Running {
             links,
         } = entry;
         let mut seat = self.session.asker(&mut self.recorder);
-        let linked = self.add_links(&mut seat, &mut graph, &links);
+        let linked = self.add_links(alloc, &mut seat, &mut graph, &links);
         self.session.give_back(&mut self.recorder, seat);
         match linked {
             Ok(()) => Ok(Linked { name, graph }),
@@ -230,6 +230,7 @@ impl Running {
     /// Puts links at the end of a graph, each by what its operation came to.
     fn add_links(
         &self,
+        alloc: Global,
         seat: &mut Seat,
         graph: &mut Graph,
         links: &ItemList<Link>,
@@ -245,7 +246,7 @@ impl Running {
         for place in 0..links.len() {
             let link = links.at(place);
             let answer = self.answer(seat, &link);
-            add_link(graph, &link, answer)?;
+            add_link(alloc, graph, &link, answer)?;
         }
         Ok(())
     }

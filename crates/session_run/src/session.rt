@@ -109,7 +109,7 @@ fn run_next<F: Fn(&Checked) -> Result<Outcome, NoMemory>>(
     ensures refused { IfErr result (λ fault. Refuses (slots_of running) (ran_by running) (linked_entry (ran_by running) entry) fault) }
 {
     let mut running = running;
-    let Linked { name, graph } = match running.link(entry) {
+    let Linked { name, graph } = match running.link(alloc, entry) {
         Ok(linked) => linked,
         Err(NoMemory) => return Err(RunFault::NoMemory),
     };

@@ -52,9 +52,9 @@ pub place_named : (g : GraphValue) (w : List ℕ) → is_line_name g w ≡ is_so
 place_named g w = position_any (λ (l : Line). bytes_eq l.name w) g.lines
 
 -- the line of a link whose user line is there, and the reason for it
-pub line_there : (g : GraphValue) (l : Link) (i : ℕ) → place_of g l.user ≡ Some i → (trigger_reason g l ≡ line_fault g (record { name = l.line; verb = Trigger i; on = None })) × (trigger_line g l ≡ record { name = l.line; verb = Trigger i; on = None })
+pub line_there : (g : GraphValue) (l : Link) (i : ℕ) → place_of g l.user ≡ Some i → (trigger_reason g l ≡ line_fault g (record { name = l.line; verb = Trigger i; on = [] })) × (trigger_line g l ≡ record { name = l.line; verb = Trigger i; on = [] })
 line_there g l i h =
-    let line : trigger_line g l ≡ record { name = l.line; verb = Trigger i; on = None } = ap (λ o. record { name = l.line; verb = Trigger (unwrap_or o 0); on = None }) h in
+    let line : trigger_line g l ≡ record { name = l.line; verb = Trigger i; on = [] } = ap (λ o. record { name = l.line; verb = Trigger (unwrap_or o 0); on = [] }) h in
     (cond-true (is_line_name g l.user) (line_fault g (trigger_line g l)) _ (place_named g l.user ∙ ap (λ (o : Option ℕ). is_some o) h) ∙ ap (line_fault g) line, line)
 
 -- and of one whose user line is not

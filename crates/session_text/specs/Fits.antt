@@ -22,7 +22,7 @@ use Rattle.session_text.specs.Session.{closing, HeadStands}
 
 -- the line of a link, taken as a trigger of its user line
 abbrev pub trigger_line : GraphValue → Link → Line
-trigger_line g l = record { name = l.line; verb = Trigger (line_number g l.user); on = None }
+trigger_line g l = record { name = l.line; verb = Trigger (line_number g l.user); on = [] }
 
 -- a graph with links at its end, each taken as a trigger
 abbrev pub with_trigger : GraphValue → Link → GraphValue

@@ -15,10 +15,12 @@ use crate::words::word;
 use graph_model::graph::Graph;
 use graph_terms::format::Format;
 use graph_terms::found::Found;
+use graph_terms::lists::EventList;
 use graph_terms::name::Name;
 use graph_terms::verb::{Line, Verb};
 use graph_terms::why::Why;
 use index_spaces::NoMemory;
+use std::alloc::Global;
 
 /// The format of the first of these graphs that has this name, and format 1 where none has it.
 pub(crate) fn format_of(graphs: &[Entry], name: &[u8]) -> Format
@@ -88,29 +90,38 @@ pub(crate) fn names_op(before: &[Entry], judged: &[Graph], link: &Link) -> bool
 }
 
 /// Puts the line of a link at the end as a trigger, where it fits, else the first reason that refuses it.
-pub(crate) fn add_trigger(graph: &mut Graph, link: &Link) -> Result<Option<Why>, NoMemory>
+pub(crate) fn add_trigger(
+    alloc: Global,
+    graph: &mut Graph,
+    link: &Link,
+) -> Result<Option<Why>, NoMemory>
     requires { IsTrue (is_name_in graph.old.format link.now.line) }
     ensures fault { IfOk result (λ why. why ≡ trigger_reason graph.old link.now) }
     ensures added { OnOk result (trigger_reason graph.old link.now ≡ None → graph.new ≡ with_trigger graph.old link.now) }
 {
     match find_line(graph, &link.user) {
-        Some(user) => offer_trigger(graph, link.line, user),
+        Some(user) => offer_trigger(alloc, graph, link.line, user),
         None => Ok(Some(no_user_reason(graph, link))),
     }
 }
 
 /// Puts a line that triggers the line of this number at the end, where it fits, else the first reason
 /// that refuses it.
-fn offer_trigger(graph: &mut Graph, name: Name, user: u32) -> Result<Option<Why>, NoMemory>
+fn offer_trigger(
+    alloc: Global,
+    graph: &mut Graph,
+    name: Name,
+    user: u32,
+) -> Result<Option<Why>, NoMemory>
     requires { IsTrue (is_name_in graph.old.format name) }
-    ensures fault { IfOk result (λ why. why ≡ line_fault graph.old (record { name = name; verb = Verb.Trigger user; on = None })) }
-    ensures added { OnOk result (line_fault graph.old (record { name = name; verb = Verb.Trigger user; on = None }) ≡ None
-        → graph.new ≡ with_line graph.old (record { name = name; verb = Verb.Trigger user; on = None })) }
+    ensures fault { IfOk result (λ why. why ≡ line_fault graph.old (record { name = name; verb = Verb.Trigger user; on = [] })) }
+    ensures added { OnOk result (line_fault graph.old (record { name = name; verb = Verb.Trigger user; on = [] }) ≡ None
+        → graph.new ≡ with_line graph.old (record { name = name; verb = Verb.Trigger user; on = [] })) }
 {
     let line = Line {
         name,
         verb: Verb::Trigger { user },
-        on: None,
+        on: EventList::new(alloc),
     };
     line.is_well_formed();
     graph.offer_line(line)

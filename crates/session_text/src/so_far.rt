@@ -44,13 +44,18 @@ pub(crate) struct Last {
 impl Last {
     /// Puts a link at the end, where it fits and there is room for a line more, else the first reason
     /// that refuses it.
-    fn add_link(&mut self, link: Link, has_room: bool) -> Result<Option<Why>, NoMemory>
+    fn add_link(
+        &mut self,
+        alloc: Global,
+        link: Link,
+        has_room: bool,
+    ) -> Result<Option<Why>, NoMemory>
         requires few { length self.old.entry.links < u32.MAX }
         requires named { IsTrue (is_name_in self.old.judged.format link.line) }
         ensures fault { IfOk result (λ why. why ≡ added_reason self.old link has_room) }
         ensures added { OnOk result (added_reason self.old link has_room ≡ None → AddsLink self.old link self.new) }
     {
-        if let Some(why) = add_trigger(&mut self.judged, &link)? {
+        if let Some(why) = add_trigger(alloc, &mut self.judged, &link)? {
             return Ok(Some(why));
         }
         if !has_room {
@@ -154,7 +159,7 @@ impl SoFar {
             return self.take_graph_line(alloc, words, after, number);
         }
         if is_link_line(words) {
-            return self.take_link_line(words, after, number);
+            return self.take_link_line(alloc, words, after, number);
         }
         Err(refused(number, Why::Syntax))
     }
@@ -184,6 +189,7 @@ impl SoFar {
     /// Reads the line of a link.
     fn take_link_line<'a>(
         &mut self,
+        alloc: Global,
         words: &[&[u8]],
         after: &'a [u8],
         number: u32,
@@ -196,7 +202,7 @@ impl SoFar {
         ensures shorter { IfOk result (λ x. length x.bytes.now ≤ length after.now) }
         ensures refused { IfErr result (λ e. RefusedThere self.old (contents words.now) after.now number e) }
     {
-        match self.take_link(words) {
+        match self.take_link(alloc, words) {
             Ok(None) => Ok(Rest {
                 bytes: after,
                 number: number + 1,
@@ -358,7 +364,7 @@ impl SoFar {
 
     /// Puts the link of these words at the end of the last graph's, where it fits, else the first
     /// reason that refuses it.
-    fn take_link(&mut self, words: &[&[u8]]) -> Result<Option<Why>, NoMemory>
+    fn take_link(&mut self, alloc: Global, words: &[&[u8]]) -> Result<Option<Why>, NoMemory>
         requires so_far { IsSoFar self.old }
         ensures fault { IfOk result (λ why. why ≡ last_reason self.old.before.items (last_entry self.old.last) (link_of (contents words.now))) }
         ensures added { OnOk result (last_reason self.old.before.items (last_entry self.old.last) (link_of (contents words.now)) ≡ None
@@ -371,7 +377,7 @@ impl SoFar {
         if !names_op(self.before.as_slice(), self.judged.as_slice(), &link) {
             return Ok(Some(Why::Unknown));
         }
-        let why = add_link(&mut self.last, link, self.lines < MAX_SESSION_LINES)?;
+        let why = add_link(alloc, &mut self.last, link, self.lines < MAX_SESSION_LINES)?;
         if why.is_none() {
             self.lines += 1;
         }
@@ -381,14 +387,19 @@ impl SoFar {
 
 /// Puts a link at the end of the last graph's, where there is one and the link fits, else the first
 /// reason that refuses it.
-fn add_link(last: &mut Option<Last>, link: Link, has_room: bool) -> Result<Option<Why>, NoMemory>
+fn add_link(
+    alloc: Global,
+    last: &mut Option<Last>,
+    link: Link,
+    has_room: bool,
+) -> Result<Option<Why>, NoMemory>
     requires few { AllowsLink last.old }
     requires named { IfSome last.old (λ l. IsTrue (is_name_in l.judged.format link.line)) }
     ensures fault { IfOk result (λ why. why ≡ option_map_or (λ l. added_reason l link has_room) last.old (Some Why.Unknown)) }
     ensures added { OnOk result (LastAdded last.old link has_room last.new) }
 {
     match last {
-        Some(last) => last.add_link(link, has_room),
+        Some(last) => last.add_link(alloc, link, has_room),
         None => Ok(Some(Why::Unknown)),
     }
 }

@@ -81,7 +81,7 @@ module _ (f : GraphValue) (commute : Bool) (flow : IsFlow f) (few : wants_many f
   target = made_after f commute (number_from f) (suc n)
 
   -- what stands before the line itself
-  abbrev waiting : Made × Option ℕ
+  abbrev waiting : Made × List ℕ
   waiting = wait_for (parts_of f commute (sources_after f commute n) n) (made_after f commute (number_from f) n)
 
   pub next_is : with_line_by o l (wait_for p (made_of old)) ≡ target

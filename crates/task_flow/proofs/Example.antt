@@ -1,6 +1,6 @@
 -- The graph of a small flow, computed.
 use Rattle.std.proofs.Common.{◌≡◌, ℕ, true, false, List, [], ◌∷◌, refl}
-use Rattle.std.specs.Prelude.{codes, Some, None}
+use Rattle.std.specs.Prelude.{codes}
 use Rattle.index_spaces.specs.declared.Op.TheVariants as op
 use Rattle.graph_terms.specs.declared.decl.Decl.TheVariants.{Space, Inst, Lock}
 use Rattle.graph_terms.specs.declared.format.Format.TheVariants.{One}
@@ -12,10 +12,10 @@ use Rattle.graph_terms.specs.Graph.{GraphValue}
 use Rattle.task_flow.specs.Construction.{new_name, first_number, number_from, is_contended, reservations, written}
 
 abbrev own : List ℕ → Verb → Line
-own n v = record { name = n; «verb» = v; «on» = None }
+own n v = record { name = n; «verb» = v; «on» = [] }
 
 abbrev waiting : List ℕ → Verb → ℕ → Line
-waiting n v e = record { name = n; «verb» = v; «on» = Some e }
+waiting n v e = record { name = n; «verb» = v; «on» = e ∷ [] }
 
 -- two fills, two sums into the second column, and a copy of it
 abbrev small : GraphValue

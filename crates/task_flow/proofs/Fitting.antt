@@ -16,6 +16,8 @@ use Rattle.graph_terms.specs.declared.decl.ColumnInfo.{ColumnInfo}
 use Rattle.graph_terms.specs.declared.decl.Decl.{Decl}
 use Rattle.graph_terms.specs.declared.decl.Decl.TheVariants.{Lock}
 use Rattle.graph_terms.specs.declared.format.Format.{Format}
+use Rattle.graph_terms.specs.declared.format.Format.TheVariants.{One, Two, Three}
+use Rattle.graph_terms.specs.Format.{has_since}
 use Rattle.graph_terms.specs.declared.table.Kernel.TheVariants as kernel
 use Rattle.graph_terms.specs.declared.verb.Access.{Access}
 use Rattle.graph_terms.specs.declared.verb.Line.{Line}
@@ -27,7 +29,7 @@ use Rattle.graph_terms.specs.declared.limits.TheConstants.{MAX_INSTS, MAX_COLUMN
 use Rattle.graph_terms.specs.Name.{is_name_in}
 use Rattle.graph_terms.specs.Access.{verb_accesses}
 use Rattle.graph_terms.specs.Edges.{edges, line_edges}
-use Rattle.graph_terms.specs.Fits.{first_reason, repeats, names, is_used, is_inst, cell_count, with_line, is_beyond, verb_repeats, named_lines, on_lines, line_unknown, verb_unknown, verb_unlike, takes_no_on, format_lacks, verb_misnumbered, access_unknown, access_outside, arrives_late, merges_many, line_tests, line_fault, LinesFit}
+use Rattle.graph_terms.specs.Fits.{first_reason, repeats, names, is_used, is_inst, cell_count, with_line, is_beyond, verb_repeats, named_lines, line_unknown, verb_unknown, verb_unlike, takes_no_on, on_unlike, format_lacks, verb_misnumbered, access_unknown, access_outside, arrives_late, most_events, merged_events, names_many, line_tests, line_fault, LinesFit}
 use Rattle.graph_terms.specs.Spelling.{head, spelled, line_words}
 use Rattle.graph_terms.proofs.Public.{none_first, head_with_line, edges_push}
 use Rattle.flow_order.specs.Flow.{IsFlow, uses_columns}
@@ -38,7 +40,7 @@ use Rattle.task_flow.specs.Making.{IsPast}
 use Rattle.task_flow.proofs.Names.{new_is_name, in_each, new_differ, unused}
 use Rattle.task_flow.proofs.NameScan.{is_free, power_most}
 use Rattle.basics.proofs.Choices.{both_not}
-use Rattle.task_flow.proofs.Standing.{Waits, IsOwn, IsSection, Standing, new_line, own_uses}
+use Rattle.task_flow.proofs.Standing.{IsOwn, IsSection, Standing, new_line, own_uses}
 use Rattle.task_flow.proofs.Reservations.{spaces_stay, columns_stay}
 
 -- a line of lines that fit fits after those before it
@@ -65,7 +67,7 @@ record IsClear (g : GraphValue) (v : Verb) : Type 0 where
   bare : takes_no_on v ≡ false
   number : verb_misnumbered g.format v ≡ false
   late : arrives_late g v ≡ false
-  many : merges_many v ≡ false
+  merged : merged_events v ≡ []
   named : named_lines v ≡ []
 
 own_clear : (g : GraphValue) (v : Verb) → uses_columns v ≡ true → IsClear g v
@@ -78,19 +80,19 @@ own_clear g (Phase u) h = absurd (true≢false (sym h))
 own_clear g (Arrive p v w) h = absurd (true≢false (sym h))
 own_clear g (Acquire l s) h = absurd (true≢false (sym h))
 own_clear g (Release q) h = absurd (true≢false (sym h))
-own_clear g (Fill t s v) h = record { twice = refl; unknown = refl; unlike = refl; bare = refl; number = refl; late = refl; many = refl; named = refl }
-own_clear g (Copy x y s) h = record { twice = refl; unknown = refl; unlike = refl; bare = refl; number = refl; late = refl; many = refl; named = refl }
-own_clear g (Reduce op.Sum x y s) h = record { twice = refl; unknown = refl; unlike = refl; bare = refl; number = refl; late = refl; many = refl; named = refl }
-own_clear g (Reduce op.Min x y s) h = record { twice = refl; unknown = refl; unlike = refl; bare = refl; number = refl; late = refl; many = refl; named = refl }
-own_clear g (Reduce op.Max x y s) h = record { twice = refl; unknown = refl; unlike = refl; bare = refl; number = refl; late = refl; many = refl; named = refl }
-own_clear g (Task (kernel.Iota x s v)) h = record { twice = refl; unknown = refl; unlike = refl; bare = refl; number = refl; late = refl; many = refl; named = refl }
-own_clear g (Task (kernel.Axpy x y s v)) h = record { twice = refl; unknown = refl; unlike = refl; bare = refl; number = refl; late = refl; many = refl; named = refl }
-own_clear g (Task (kernel.Stencil x y r s)) h = record { twice = refl; unknown = refl; unlike = refl; bare = refl; number = refl; late = refl; many = refl; named = refl }
-own_clear g (Task (kernel.Scan x y s)) h = record { twice = refl; unknown = refl; unlike = refl; bare = refl; number = refl; late = refl; many = refl; named = refl }
-own_clear g (Task (kernel.Hist x y s t)) h = record { twice = refl; unknown = refl; unlike = refl; bare = refl; number = refl; late = refl; many = refl; named = refl }
-own_clear g (Task (kernel.Dot x y z s t)) h = record { twice = refl; unknown = refl; unlike = refl; bare = refl; number = refl; late = refl; many = refl; named = refl }
-own_clear g (Task (kernel.Expect x s low high)) h = record { twice = refl; unknown = refl; unlike = refl; bare = refl; number = refl; late = refl; many = refl; named = refl }
-own_clear g (Task (kernel.Gather x y z s t)) h = record { twice = refl; unknown = refl; unlike = refl; bare = refl; number = refl; late = refl; many = refl; named = refl }
+own_clear g (Fill t s v) h = record { twice = refl; unknown = refl; unlike = refl; bare = refl; number = refl; late = refl; merged = refl; named = refl }
+own_clear g (Copy x y s) h = record { twice = refl; unknown = refl; unlike = refl; bare = refl; number = refl; late = refl; merged = refl; named = refl }
+own_clear g (Reduce op.Sum x y s) h = record { twice = refl; unknown = refl; unlike = refl; bare = refl; number = refl; late = refl; merged = refl; named = refl }
+own_clear g (Reduce op.Min x y s) h = record { twice = refl; unknown = refl; unlike = refl; bare = refl; number = refl; late = refl; merged = refl; named = refl }
+own_clear g (Reduce op.Max x y s) h = record { twice = refl; unknown = refl; unlike = refl; bare = refl; number = refl; late = refl; merged = refl; named = refl }
+own_clear g (Task (kernel.Iota x s v)) h = record { twice = refl; unknown = refl; unlike = refl; bare = refl; number = refl; late = refl; merged = refl; named = refl }
+own_clear g (Task (kernel.Axpy x y s v)) h = record { twice = refl; unknown = refl; unlike = refl; bare = refl; number = refl; late = refl; merged = refl; named = refl }
+own_clear g (Task (kernel.Stencil x y r s)) h = record { twice = refl; unknown = refl; unlike = refl; bare = refl; number = refl; late = refl; merged = refl; named = refl }
+own_clear g (Task (kernel.Scan x y s)) h = record { twice = refl; unknown = refl; unlike = refl; bare = refl; number = refl; late = refl; merged = refl; named = refl }
+own_clear g (Task (kernel.Hist x y s t)) h = record { twice = refl; unknown = refl; unlike = refl; bare = refl; number = refl; late = refl; merged = refl; named = refl }
+own_clear g (Task (kernel.Dot x y z s t)) h = record { twice = refl; unknown = refl; unlike = refl; bare = refl; number = refl; late = refl; merged = refl; named = refl }
+own_clear g (Task (kernel.Expect x s low high)) h = record { twice = refl; unknown = refl; unlike = refl; bare = refl; number = refl; late = refl; merged = refl; named = refl }
+own_clear g (Task (kernel.Gather x y z s t)) h = record { twice = refl; unknown = refl; unlike = refl; bare = refl; number = refl; late = refl; merged = refl; named = refl }
 
 own_in_format : (fm : Format) (v : Verb) → uses_columns v ≡ true → format_lacks fm v ≡ false
 own_in_format fm (Acquire l s) h = absurd (true≢false (sym h))
@@ -111,11 +113,32 @@ none_past xs k below = false_from_ne_true (list_any (λ i. nat_le k i) xs) (λ h
     let b : s.0 < k = below s.0 s.1 in
     let no : ⊥ = absurd (omega arith) in no)
 
-on_below : (labels : List (List ℕ)) (k : ℕ) (o : Option ℕ) (P : ℕ → Type 0) → Waits labels k o P → (e : ℕ) → Contains (on_lines o) e → e < k
-on_below labels k None P w e c = absurd (contains_none e c)
-on_below labels k (Some x) P w e c = elim (contains_cases x [] e c) [ inl same ↦ subst (λ z. z < k) same w.0 | inr none ↦ absurd (contains_none e none) ]
+no_and : (a b : Bool) → b ≡ false → (a && b) ≡ false
+no_and true b h = h
+no_and false b h = refl
 
-same_line : (l : Line) (v : Verb) (o : Option ℕ) → l.verb ≡ v → l.on ≡ o → record { name = l.name; verb = v; «on» = o } ≡ l
+few_not : (most n : ℕ) → n ≤ most → nat_lt most n ≡ false
+few_not most n h = false_from_ne_true (nat_lt most n) (λ b. (let c : most < n = ltb-true most n b in let no : ⊥ = absurd (omega arith) in no))
+
+-- one event behind `on` is right in each format, and none is right of each verb
+one_event : (fm : Format) (v : Verb) (on : List ℕ) → takes_no_on v ≡ false → length on ≤ 1 → on_unlike fm v on ≡ false
+one_event fm v on takes few = both_not (takes_no_on v && nat_lt 0 (length on)) _ (and_no (takes_no_on v) (nat_lt 0 (length on)) takes) (no_and (not (has_since Three fm)) (nat_lt 1 (length on)) (few_not 1 (length on) few))
+
+no_event : (fm : Format) (v : Verb) → on_unlike fm v [] ≡ false
+no_event fm v = both_not (takes_no_on v && false) _ (no_and (takes_no_on v) false refl) (no_and (not (has_since Three fm)) false refl)
+
+-- as many events as a merge of format 1 names are few in each format
+most_some : (fm : Format) → 64 ≤ most_events fm
+most_some One = lit≤ tt
+most_some Two = lit≤ tt
+most_some Three = lit≤ tt
+
+names_few : (fm : Format) (v : Verb) (on : List ℕ) → length (merged_events v) ≤ 64 → length on ≤ 1 → names_many fm v on ≡ false
+names_few fm v on merged few =
+    let most : 64 ≤ most_events fm = most_some fm in
+    both_not (nat_lt (most_events fm) (length (merged_events v))) _ (few_not (most_events fm) (length (merged_events v)) (omega arith)) (few_not (most_events fm) (length on) (omega arith))
+
+same_line : (l : Line) (v : Verb) (o : List ℕ) → l.verb ≡ v → l.on ≡ o → record { name = l.name; verb = v; «on» = o } ≡ l
 same_line l v o e f = ap (λ z. record { name = l.name; verb = z; «on» = o }) (sym e) ∙ ap (λ z. record { name = l.name; verb = l.verb; «on» = z }) (sym f)
 
 -- what a graph has of columns and spaces decides which accesses are known and lie inside
@@ -132,63 +155,72 @@ outside_same : (g h : GraphValue) (xs : List Access) → columns g ≡ columns h
 outside_same g h xs c s = ap (λ cs. list_any (outside_by cs (named_spaces g)) xs) c ∙ ap (λ ss. list_any (outside_by (columns h) ss) xs) s
 
 -- a line of a flow after other lines
-own_fault : (g own : GraphValue) → columns g ≡ columns own → named_spaces g ≡ named_spaces own → (l : Line) (name : List ℕ) (on : Option ℕ) → uses_columns l.verb ≡ true → line_fault own l ≡ None → is_used g name ≡ false → ((e : ℕ) → Contains (on_lines on) e → e < length g.lines) →
+own_fault : (g own : GraphValue) → columns g ≡ columns own → named_spaces g ≡ named_spaces own → (l : Line) (name on : List ℕ) → uses_columns l.verb ≡ true → line_fault own l ≡ None → is_used g name ≡ false → ((e : ℕ) → Contains on e → e < length g.lines) → repeats nat_eq on ≡ false → length on ≤ 1 →
     line_fault g (record { name = name; verb = l.verb; «on» = on }) ≡ cond (is_beyond (with_line g (record { name = name; verb = l.verb; «on» = on }))) (Some why.Limit) None
-own_fault g own cols spaces l name on uses fits fresh below =
+own_fault g own cols spaces l name on uses fits fresh below once few =
     let v = l.verb in
     let c = own_clear g v uses in
     let new : Line = record { name = name; verb = v; «on» = on } in
-    let once = or_parts _ _ (or_parts (is_used own l.name) _ (none_first (line_tests own l) fits (is_used own l.name || (verb_repeats own v || repeats nat_eq (map (λ (a : Access). a.column) (verb_accesses v))), why.Twice) (0, omega arith, refl))).1 in
+    let used : List ℕ = map (λ (a : Access). a.column) (verb_accesses v) in
+    let twice = or_parts (verb_repeats own v) (repeats nat_eq used || repeats nat_eq l.on) (or_parts (is_used own l.name) _ (none_first (line_tests own l) fits (is_used own l.name || (verb_repeats own v || (repeats nat_eq used || repeats nat_eq l.on)), why.Twice) (0, omega arith, refl))).1 in
+    let apart = or_parts (repeats nat_eq used) (repeats nat_eq l.on) twice.1 in
     let known = or_parts _ _ (or_parts _ _ (none_first (line_tests own l) fits (line_unknown own l, why.Unknown) (1, omega arith, refl))).1 in
     let within : list_any (access_outside own) (verb_accesses v) ≡ false = none_first (line_tests own l) fits (list_any (access_outside own) (verb_accesses v), why.Outside) (4, omega arith, refl) in
-    six_false (is_used g name || (verb_repeats g v || repeats nat_eq (map (λ (a : Access). a.column) (verb_accesses v)))) (line_unknown g new) (verb_unlike g v || ((takes_no_on v && is_some on) || format_lacks g.format v)) (verb_misnumbered g.format v) (list_any (access_outside g) (verb_accesses v)) (arrives_late g v) (merges_many v || is_beyond (with_line g new))
-    (both_not (is_used g name) _ fresh (both_not (verb_repeats g v) _ c.twice once.1))
-    (both_not (list_any (λ i. nat_le (length g.lines) i) (named_lines v ++ on_lines on)) _ (ap (λ xs. list_any (λ i. nat_le (length g.lines) i) (xs ++ on_lines on)) c.named ∙ none_past (on_lines on) (length g.lines) below) (both_not (verb_unknown g v) _ c.unknown (unknown_same g own (verb_accesses v) cols spaces ∙ known.1)))
-    (both_not (verb_unlike g v) _ c.unlike (both_not (takes_no_on v && is_some on) _ (and_no (takes_no_on v) (is_some on) c.bare) (own_in_format g.format v uses)))
+    let none : length (merged_events v) ≡ 0 = ap length c.merged in
+    six_false (is_used g name || (verb_repeats g v || (repeats nat_eq used || repeats nat_eq on))) (line_unknown g new) (verb_unlike g v || (on_unlike g.format v on || format_lacks g.format v)) (verb_misnumbered g.format v) (list_any (access_outside g) (verb_accesses v)) (arrives_late g v) (names_many g.format v on || is_beyond (with_line g new))
+    (both_not (is_used g name) _ fresh (both_not (verb_repeats g v) _ c.twice (both_not (repeats nat_eq used) (repeats nat_eq on) apart.0 once)))
+    (both_not (list_any (λ i. nat_le (length g.lines) i) (named_lines v ++ on)) _ (ap (λ xs. list_any (λ i. nat_le (length g.lines) i) (xs ++ on)) c.named ∙ none_past on (length g.lines) below) (both_not (verb_unknown g v) _ c.unknown (unknown_same g own (verb_accesses v) cols spaces ∙ known.1)))
+    (both_not (verb_unlike g v) _ c.unlike (both_not (on_unlike g.format v on) _ (one_event g.format v on c.bare few) (own_in_format g.format v uses)))
     c.number (outside_same g own (verb_accesses v) cols spaces ∙ within) c.late
-    ∙ ap (λ b. cond (b || is_beyond (with_line g new)) (Some why.Limit) None) c.many
+    ∙ ap (λ b. cond (b || is_beyond (with_line g new)) (Some why.Limit) None) (names_few g.format v on (omega arith) few)
 
 -- a merge after other lines
 merge_fault : (g : GraphValue) (name es : List ℕ) → is_used g name ≡ false → repeats nat_eq es ≡ false → 0 < length es → length es ≤ 64 → ((e : ℕ) → Contains es e → e < length g.lines) →
-    line_fault g (record { name = name; verb = Merge es; «on» = None }) ≡ cond (is_beyond (with_line g (record { name = name; verb = Merge es; «on» = None }))) (Some why.Limit) None
+    line_fault g (record { name = name; verb = Merge es; «on» = [] }) ≡ cond (is_beyond (with_line g (record { name = name; verb = Merge es; «on» = [] }))) (Some why.Limit) None
 merge_fault g name es fresh once some few below =
-    let new : Line = record { name = name; verb = Merge es; «on» = None } in
-    six_false (is_used g name || (repeats nat_eq es || false)) (line_unknown g new) (verb_unlike g (Merge es) || ((takes_no_on (Merge es) && false) || format_lacks g.format (Merge es))) (nat_lt (length es) 1) false false (nat_lt 64 (length es) || is_beyond (with_line g new))
+    let new : Line = record { name = name; verb = Merge es; «on» = [] } in
+    six_false (is_used g name || (repeats nat_eq es || false)) (line_unknown g new) (verb_unlike g (Merge es) || (on_unlike g.format (Merge es) [] || format_lacks g.format (Merge es))) (nat_lt (length es) 1) false false (names_many g.format (Merge es) [] || is_beyond (with_line g new))
     (both_not (is_used g name) _ fresh (both_not (repeats nat_eq es) false once refl))
     (both_not (list_any (λ i. nat_le (length g.lines) i) (es ++ [])) _ (ap (list_any (λ i. nat_le (length g.lines) i)) (append-nil es) ∙ none_past es (length g.lines) below) refl)
-    (alone_in_format g.format (Merge es) refl) (false_from_ne_true (nat_lt (length es) 1) (λ h. (let b : length es < 1 = ltb-true (length es) 1 h in let no : ⊥ = absurd (omega arith) in no))) refl refl
-    ∙ ap (λ b. cond (b || is_beyond (with_line g new)) (Some why.Limit) None) (false_from_ne_true (nat_lt 64 (length es)) (λ h. (let b : 64 < length es = ltb-true 64 (length es) h in let no : ⊥ = absurd (omega arith) in no)))
+    (both_not (on_unlike g.format (Merge es) []) _ (no_event g.format (Merge es)) (alone_in_format g.format (Merge es) refl)) (few_not_none es some) refl refl
+    ∙ ap (λ b. cond (b || is_beyond (with_line g new)) (Some why.Limit) None) (names_few g.format (Merge es) [] few (let z : 0 ≤ 1 = omega arith in z))
+  where
+    few_not_none : (es : List ℕ) → 0 < length es → nat_lt (length es) 1 ≡ false
+    few_not_none es some = false_from_ne_true (nat_lt (length es) 1) (λ h. (let b : length es < 1 = ltb-true (length es) 1 h in let no : ⊥ = absurd (omega arith) in no))
 
 -- the lines of a section after other lines
-acquire_fault : (g : GraphValue) (name : List ℕ) (lock : ℕ) (on : Option ℕ) → is_used g name ≡ false → lock < length (locks g) → ((e : ℕ) → Contains (on_lines on) e → e < length g.lines) →
+acquire_fault : (g : GraphValue) (name : List ℕ) (lock : ℕ) (on : List ℕ) → is_used g name ≡ false → lock < length (locks g) → ((e : ℕ) → Contains on e → e < length g.lines) → repeats nat_eq on ≡ false → length on ≤ 1 →
     line_fault g (record { name = name; verb = Acquire lock false; «on» = on }) ≡ cond (is_beyond (with_line g (record { name = name; verb = Acquire lock false; «on» = on }))) (Some why.Limit) None
-acquire_fault g name lock on fresh known below =
+acquire_fault g name lock on fresh known below once few =
     let new : Line = record { name = name; verb = Acquire lock false; «on» = on } in
-    six_false (is_used g name || false) (line_unknown g new) (false || (false || format_lacks g.format (Acquire lock false))) false false false (is_beyond (with_line g new))
-    (both_not (is_used g name) false fresh refl)
-    (both_not (list_any (λ i. nat_le (length g.lines) i) (on_lines on)) _ (none_past (on_lines on) (length g.lines) below) (both_not (nat_le (length (locks g)) lock) false (false_from_ne_true (nat_le (length (locks g)) lock) (λ h. (let b : length (locks g) ≤ lock = leb-true (length (locks g)) lock h in let no : ⊥ = absurd (omega arith) in no))) refl))
-    (alone_in_format g.format (Acquire lock false) refl) refl refl refl
+    six_false (is_used g name || repeats nat_eq on) (line_unknown g new) (on_unlike g.format (Acquire lock false) on || format_lacks g.format (Acquire lock false)) false false false (names_many g.format (Acquire lock false) on || is_beyond (with_line g new))
+    (both_not (is_used g name) _ fresh once)
+    (both_not (list_any (λ i. nat_le (length g.lines) i) on) _ (none_past on (length g.lines) below) (both_not (nat_le (length (locks g)) lock) false (false_from_ne_true (nat_le (length (locks g)) lock) (λ h. (let b : length (locks g) ≤ lock = leb-true (length (locks g)) lock h in let no : ⊥ = absurd (omega arith) in no))) refl))
+    (both_not (on_unlike g.format (Acquire lock false) on) _ (one_event g.format (Acquire lock false) on refl few) (alone_in_format g.format (Acquire lock false) refl)) refl refl refl
+    ∙ ap (λ b. cond (b || is_beyond (with_line g new)) (Some why.Limit) None) (names_few g.format (Acquire lock false) on (let z : 0 ≤ 64 = omega arith in z) few)
 
 ignore_fault : (g : GraphValue) (name : List ℕ) (e : ℕ) → is_used g name ≡ false → e < length g.lines →
-    line_fault g (record { name = name; verb = MergeIgnore (e ∷ []); «on» = None }) ≡ cond (is_beyond (with_line g (record { name = name; verb = MergeIgnore (e ∷ []); «on» = None }))) (Some why.Limit) None
+    line_fault g (record { name = name; verb = MergeIgnore (e ∷ []); «on» = [] }) ≡ cond (is_beyond (with_line g (record { name = name; verb = MergeIgnore (e ∷ []); «on» = [] }))) (Some why.Limit) None
 ignore_fault g name e fresh below =
-    let new : Line = record { name = name; verb = MergeIgnore (e ∷ []); «on» = None } in
-    six_false (is_used g name || false) (line_unknown g new) (verb_unlike g (MergeIgnore (e ∷ [])) || ((takes_no_on (MergeIgnore (e ∷ [])) && false) || format_lacks g.format (MergeIgnore (e ∷ [])))) false false false (is_beyond (with_line g new))
+    let new : Line = record { name = name; verb = MergeIgnore (e ∷ []); «on» = [] } in
+    six_false (is_used g name || false) (line_unknown g new) (verb_unlike g (MergeIgnore (e ∷ [])) || (on_unlike g.format (MergeIgnore (e ∷ [])) [] || format_lacks g.format (MergeIgnore (e ∷ [])))) false false false (names_many g.format (MergeIgnore (e ∷ [])) [] || is_beyond (with_line g new))
     (both_not (is_used g name) false fresh refl)
     (both_not (list_any (λ i. nat_le (length g.lines) i) (e ∷ [])) _ (none_past (e ∷ []) (length g.lines) (λ x c. elim (contains_cases e [] x c) [ inl same ↦ subst (λ z. z < length g.lines) same below | inr none ↦ absurd (contains_none x none) ])) refl)
-    (alone_in_format g.format (MergeIgnore (e ∷ [])) refl) refl refl refl
+    (both_not (on_unlike g.format (MergeIgnore (e ∷ [])) []) _ (no_event g.format (MergeIgnore (e ∷ []))) (alone_in_format g.format (MergeIgnore (e ∷ [])) refl)) refl refl refl
+    ∙ ap (λ b. cond (b || is_beyond (with_line g new)) (Some why.Limit) None) (names_few g.format (MergeIgnore (e ∷ [])) [] (let z : 1 ≤ 64 = omega arith in z) (let z : 0 ≤ 1 = omega arith in z))
 
 release_fault : (g : GraphValue) (name : List ℕ) (q e : ℕ) → is_used g name ≡ false → list_any (λ (l : Line). is_release_of q l.verb) g.lines ≡ false → line_passes is_acquire g q ≡ true → q < length g.lines → e < length g.lines →
-    line_fault g (record { name = name; verb = Release q; «on» = Some e }) ≡ cond (is_beyond (with_line g (record { name = name; verb = Release q; «on» = Some e }))) (Some why.Limit) None
+    line_fault g (record { name = name; verb = Release q; «on» = e ∷ [] }) ≡ cond (is_beyond (with_line g (record { name = name; verb = Release q; «on» = e ∷ [] }))) (Some why.Limit) None
 release_fault g name q e fresh once acquires above below =
-    let new : Line = record { name = name; verb = Release q; «on» = Some e } in
-    six_false (is_used g name || (list_any (λ (l : Line). is_release_of q l.verb) g.lines || false)) (line_unknown g new) (not (line_passes is_acquire g q) || (false || format_lacks g.format (Release q))) false false false (is_beyond (with_line g new))
+    let new : Line = record { name = name; verb = Release q; «on» = e ∷ [] } in
+    six_false (is_used g name || (list_any (λ (l : Line). is_release_of q l.verb) g.lines || false)) (line_unknown g new) (not (line_passes is_acquire g q) || (on_unlike g.format (Release q) (e ∷ []) || format_lacks g.format (Release q))) false false false (names_many g.format (Release q) (e ∷ []) || is_beyond (with_line g new))
     (both_not (is_used g name) _ fresh (both_not (list_any (λ (l : Line). is_release_of q l.verb) g.lines) false once refl))
     (both_not (list_any (λ i. nat_le (length g.lines) i) (q ∷ e ∷ [])) _ (none_past (q ∷ e ∷ []) (length g.lines) (λ x c. elim (contains_cases q (e ∷ []) x c) [
       | inl same ↦ subst (λ z. z < length g.lines) same above
       | inr rest ↦ elim (contains_cases e [] x rest) [ inl same ↦ subst (λ z. z < length g.lines) same below | inr none ↦ absurd (contains_none x none) ]
     ])) refl)
-    (both_not (not (line_passes is_acquire g q)) _ (ap not acquires) (alone_in_format g.format (Release q) refl)) refl refl refl
+    (both_not (not (line_passes is_acquire g q)) _ (ap not acquires) (both_not (on_unlike g.format (Release q) (e ∷ [])) _ (one_event g.format (Release q) (e ∷ []) refl (let z : 1 ≤ 1 = omega arith in z)) (alone_in_format g.format (Release q) refl))) refl refl refl
+    ∙ ap (λ b. cond (b || is_beyond (with_line g new)) (Some why.Limit) None) (names_few g.format (Release q) (e ∷ []) (let z : 0 ≤ 64 = omega arith in z) (let z : 1 ≤ 1 = omega arith in z))
 
 own_releases : (q : ℕ) (v : Verb) → uses_columns v ≡ true → is_release_of q v ≡ false
 own_releases q User h = absurd (true≢false (sym h))
@@ -249,7 +281,7 @@ module _ (f : GraphValue) (commute : Bool) (flow : IsFlow f) (n : ℕ) (within :
   own_fits i h = fits_after f.format f.decls [] f.lines flow.fits.lines i (line_in f i) (slice_get-get_or f.lines i no_line (omega arith))
 
   own_free : (i : ℕ) → i < n → is_used (lined f.format f.decls (take i f.lines)) (line_in f i).name ≡ false
-  own_free i h = (or_parts (is_used (lined f.format f.decls (take i f.lines)) (line_in f i).name) _ (none_first (line_tests (lined f.format f.decls (take i f.lines)) (line_in f i)) (own_fits i h) (is_used (lined f.format f.decls (take i f.lines)) (line_in f i).name || (verb_repeats (lined f.format f.decls (take i f.lines)) (line_in f i).verb || repeats nat_eq (map (λ (a : Access). a.column) (verb_accesses (line_in f i).verb))), why.Twice) (0, omega arith, refl))).0
+  own_free i h = (or_parts (is_used (lined f.format f.decls (take i f.lines)) (line_in f i).name) _ (none_first (line_tests (lined f.format f.decls (take i f.lines)) (line_in f i)) (own_fits i h) (is_used (lined f.format f.decls (take i f.lines)) (line_in f i).name || (verb_repeats (lined f.format f.decls (take i f.lines)) (line_in f i).verb || (repeats nat_eq (map (λ (a : Access). a.column) (verb_accesses (line_in f i).verb)) || repeats nat_eq (line_in f i).on)), why.Twice) (0, omega arith, refl))).0
 
   own_got : (i : ℕ) → i < n → slice_get f.lines i ≡ Some (line_in f i)
   own_got i h = slice_get-get_or f.lines i no_line (omega arith)
@@ -337,9 +369,6 @@ module _ (f : GraphValue) (commute : Bool) (flow : IsFlow f) (n : ℕ) (within :
   abbrev FitsAt : List Line → Line → Type 0
   FitsAt b l = line_fault (lined f.format (f.decls ++ rs) b) l ≡ cond (is_beyond (lined f.format (f.decls ++ rs) (b ++ l ∷ []))) (Some why.Limit) None
 
-  on_all : (k : ℕ) (o : Option ℕ) (P : ℕ → Type 0) → Waits labels k o P → (e : ℕ) → Contains (on_lines o) e → e < k
-  on_all k o P w = on_below labels k o P w
-
   section_fits : (b : List Line) (l : Line) (rest : List Line) → m.lines ≡ b ++ l ∷ rest → is_used (lined f.format (f.decls ++ rs) b) l.name ≡ false → 0 < st.guards → (q : ℕ) → Section q → (length b ≡ q) ⊎ ((length b ≡ q + 2) ⊎ (length b ≡ q + 3)) → FitsAt b l
   section_fits b l rest is free some q s which =
       let at : slice_get m.lines (length b) ≡ Some l = ap (λ xs. slice_get xs (length b)) is ∙ got_behind b l rest in
@@ -347,15 +376,15 @@ module _ (f : GraphValue) (commute : Bool) (flow : IsFlow f) (n : ℕ) (within :
         | inl a ↦ (
             let line = section_line (length b) q l _ at a s.acquire in
             subst (FitsAt b) (same_line l (Acquire (lock_for f commute s.line) false) s.on (ap (λ (z : Line). z.verb) line) (ap (λ (z : Line). z.on) line))
-            (acquire_fault (lined f.format (f.decls ++ rs) b) l.name (lock_for f commute s.line) s.on free (room some s.line s.below s.contended) (subst (λ z. (e : ℕ) → Contains (on_lines s.on) e → e < z) (sym a) (on_all q s.on _ s.waits))))
+            (acquire_fault (lined f.format (f.decls ++ rs) b) l.name (lock_for f commute s.line) s.on free (room some s.line s.below s.contended) (subst (λ z. (e : ℕ) → Contains s.on e → e < z) (sym a) (s.waits).below) (s.waits).once (s.waits).few))
         | inr (inl a) ↦ (
             let line = section_line (length b) (q + 2) l _ at a s.merge in
-            subst (FitsAt b) (same_line l (MergeIgnore ((q + 1) ∷ [])) None (ap (λ (z : Line). z.verb) line) (ap (λ (z : Line). z.on) line))
+            subst (FitsAt b) (same_line l (MergeIgnore ((q + 1) ∷ [])) [] (ap (λ (z : Line). z.verb) line) (ap (λ (z : Line). z.on) line))
             (ignore_fault (lined f.format (f.decls ++ rs) b) l.name (q + 1) free (omega arith)))
         | inr (inr a) ↦ (
             let line = section_line (length b) (q + 3) l _ at a s.release in
             let there : slice_get b q ≡ Some (new_line (m.first + q) (Acquire (lock_for f commute s.line) false) s.on) = sym (got_before b (l ∷ rest) q (omega arith)) ∙ (ap (λ xs. slice_get xs q) (sym is) ∙ s.acquire) in
-            subst (FitsAt b) (same_line l (Release q) (Some (q + 2)) (ap (λ (z : Line). z.verb) line) (ap (λ (z : Line). z.on) line))
+            subst (FitsAt b) (same_line l (Release q) ((q + 2) ∷ []) (ap (λ (z : Line). z.verb) line) (ap (λ (z : Line). z.on) line))
             (release_fault (lined f.format (f.decls ++ rs) b) l.name q (q + 2) free
             (false_from_ne_true (list_any (λ (x : Line). is_release_of q x.verb) b) (λ h.
             let x = some_passes (λ (x : Line). is_release_of q x.verb) b h in
@@ -370,8 +399,8 @@ module _ (f : GraphValue) (commute : Bool) (flow : IsFlow f) (n : ℕ) (within :
       let free : is_used (lined f.format (f.decls ++ rs) b) l.name ≡ false = name_free b l rest is in
       elim (st.each (length b) l at) [
         | inl o ↦ subst (FitsAt b) (same_line l (line_in f o.line).verb l.on o.verb refl)
-            (own_fault (lined f.format (f.decls ++ rs) b) (lined f.format f.decls (take o.line f.lines)) (columns_stay f.decls rs are) (spaces_stay f.decls rs are) (line_in f o.line) l.name l.on (own_uses f commute flow n within o.line o.below) (own_fits o.line o.below) free (on_below labels (length b) l.on _ o.waits))
-        | inr (inl o) ↦ subst (FitsAt b) (same_line l (Merge o.events) None o.verb o.on) (merge_fault (lined f.format (f.decls ++ rs) b) l.name o.events free o.once o.some o.few o.below)
+            (own_fault (lined f.format (f.decls ++ rs) b) (lined f.format f.decls (take o.line f.lines)) (columns_stay f.decls rs are) (spaces_stay f.decls rs are) (line_in f o.line) l.name l.on (own_uses f commute flow n within o.line o.below) (own_fits o.line o.below) free (o.waits).below (o.waits).once (o.waits).few)
+        | inr (inl o) ↦ subst (FitsAt b) (same_line l (Merge o.events) [] o.verb o.on) (merge_fault (lined f.format (f.decls ++ rs) b) l.name o.events free o.once o.some o.few o.below)
         | inr (inr o) ↦ section_fits b l rest is free o.0 o.1 o.2 o.3
       ]
 

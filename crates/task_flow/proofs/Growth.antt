@@ -126,10 +126,10 @@ new_past es m h full = subst (λ (r : Made × ℕ). IsPast r.0) (new_merge es m 
     (let l : length (m.lines ++ merge_line (m.first + length m.lines) es ∷ []) ≡ length m.lines + 1 = length-append m.lines (merge_line (m.first + length m.lines) es ∷ []) in let f : 8192 ≤ length m.lines = full in let r : 8192 < length (m.lines ++ merge_line (m.first + length m.lines) es ∷ []) = omega arith in r)
 
 -- what stands with a merge more
-pub pushed_merge : (lines row row' : List Line) (places : List ℕ) (items items' : List (List ℕ × ℕ)) (first line : ℕ) (es name : List ℕ) → row' ≡ row ++ record { name = name; verb = Merge es; «on» = None } ∷ [] → name ≡ new_name (first + line) → line ≡ length (lines ++ row) →
+pub pushed_merge : (lines row row' : List Line) (places : List ℕ) (items items' : List (List ℕ × ℕ)) (first line : ℕ) (es name : List ℕ) → row' ≡ row ++ record { name = name; verb = Merge es; «on» = [] } ∷ [] → name ≡ new_name (first + line) → line ≡ length (lines ++ row) →
     items' ≡ items ++ (es, line) ∷ [] → ◌≡◌ {A = Made × ℕ} (made (lines ++ row') places items' first, line) (with_merge es (made (lines ++ row) places items first), length (lines ++ row))
 pushed_merge lines row row' places items items' first line es name r n at i =
-    let all : lines ++ row' ≡ (lines ++ row) ++ merge_line (first + length (lines ++ row)) es ∷ [] = ap (λ xs. lines ++ xs) r ∙ (sym (append_assoc lines row (record { name = name; verb = Merge es; «on» = None } ∷ [])) ∙ (ap (λ z. (lines ++ row) ++ record { name = z; verb = Merge es; «on» = None } ∷ []) n ∙ ap (λ z. (lines ++ row) ++ record { name = new_name (first + z); verb = Merge es; «on» = None } ∷ []) at)) in
+    let all : lines ++ row' ≡ (lines ++ row) ++ merge_line (first + length (lines ++ row)) es ∷ [] = ap (λ xs. lines ++ xs) r ∙ (sym (append_assoc lines row (record { name = name; verb = Merge es; «on» = [] } ∷ [])) ∙ (ap (λ z. (lines ++ row) ++ record { name = z; verb = Merge es; «on» = [] } ∷ []) n ∙ ap (λ z. (lines ++ row) ++ record { name = new_name (first + z); verb = Merge es; «on» = [] } ∷ []) at)) in
     let noted : items' ≡ items ++ (es, length (lines ++ row)) ∷ [] = i ∙ ap (λ z. items ++ (es, z) ∷ []) at in
     let pair : Made → ℕ → Made × ℕ = λ a b. (a, b) in
     ap (λ z. pair (made z places items' first) line) all ∙ (ap (λ z. pair (made ((lines ++ row) ++ merge_line (first + length (lines ++ row)) es ∷ []) places z first) line) noted
@@ -194,55 +194,55 @@ wait_past p m es ps e l h =
     let past : IsPast r.0 = subst (λ (z : Made × List ℕ). IsPast z.0) (ap (λ xs. events_for xs ps m) e ∙ ap (λ xs. events_for (map (place_in m) p.small) xs m) l) h in
     past_more r.0 (event_for (length r.1) r.1 r.0).0 (event_longer (length r.1) r.1 r.0) past
 
-pub line_past : (l : Line) (r : Made × Option ℕ) → MAX_LINES ≤ length r.0.lines → IsPast (with_flow_line l r)
+pub line_past : (l : Line) (r : Made × List ℕ) → MAX_LINES ≤ length r.0.lines → IsPast (with_flow_line l r)
 line_past l r h = let k : length (r.0.lines ++ record { name = l.name; verb = l.verb; «on» = r.1 } ∷ []) ≡ length r.0.lines + 1 = length-append r.0.lines (record { name = l.name; verb = l.verb; «on» = r.1 } ∷ []) in let f : 8192 ≤ length r.0.lines = h in let z : 8192 < length (r.0.lines ++ record { name = l.name; verb = l.verb; «on» = r.1 } ∷ []) = omega arith in z
 
 -- a line that is none of the flow, and a section
-pub new_length : (v : Verb) (o : Option ℕ) (m : Made) → length (with_new v o m).lines ≡ length m.lines + 1
+pub new_length : (v : Verb) (o : List ℕ) (m : Made) → length (with_new v o m).lines ≡ length m.lines + 1
 new_length v o m = length-append m.lines (record { name = new_name (m.first + length m.lines); «verb» = v; «on» = o } ∷ [])
 
-pub line_length : (l : Line) (r : Made × Option ℕ) → length (with_flow_line l r).lines ≡ length r.0.lines + 1
+pub line_length : (l : Line) (r : Made × List ℕ) → length (with_flow_line l r).lines ≡ length r.0.lines + 1
 line_length l r = length-append r.0.lines (record { name = l.name; verb = l.verb; «on» = r.1 } ∷ [])
 
-pub past_new : (v : Verb) (o : Option ℕ) (m : Made) → MAX_LINES ≤ length m.lines → IsPast (with_new v o m)
+pub past_new : (v : Verb) (o : List ℕ) (m : Made) → MAX_LINES ≤ length m.lines → IsPast (with_new v o m)
 past_new v o m h = let k : length (with_new v o m).lines ≡ length m.lines + 1 = new_length v o m in let f : 8192 ≤ length m.lines = h in let z : 8192 < length (with_new v o m).lines = omega arith in z
 
 -- what stands with one line more in code
-pub pushed_new : (lines row row' : List Line) (places : List ℕ) (merges : List (List ℕ × ℕ)) (first line : ℕ) (v : Verb) (o : Option ℕ) (name : List ℕ) → row' ≡ row ++ record { name = name; verb = v; «on» = o } ∷ [] → name ≡ new_name (first + line) → line ≡ length (lines ++ row) →
+pub pushed_new : (lines row row' : List Line) (places : List ℕ) (merges : List (List ℕ × ℕ)) (first line : ℕ) (v : Verb) (o : List ℕ) (name : List ℕ) → row' ≡ row ++ record { name = name; verb = v; «on» = o } ∷ [] → name ≡ new_name (first + line) → line ≡ length (lines ++ row) →
     made (lines ++ row') places merges first ≡ with_new v o (made (lines ++ row) places merges first)
 pushed_new lines row row' places merges first line v o name r n at = ap (λ z. made z places merges first) (ap (λ xs. lines ++ xs) r ∙ (sym (append_assoc lines row (record { name = name; verb = v; «on» = o } ∷ []))
     ∙ (ap (λ z. (lines ++ row) ++ record { name = z; verb = v; «on» = o } ∷ []) n ∙ ap (λ z. (lines ++ row) ++ record { name = new_name (first + z); verb = v; «on» = o } ∷ []) at)))
 
-pub section_length : (lock : ℕ) (l : Line) (m : Made) (on : Option ℕ) → length (in_section lock l (m, on)).lines ≡ length m.lines + 4
+pub section_length : (lock : ℕ) (l : Line) (m : Made) (on : List ℕ) → length (in_section lock l (m, on)).lines ≡ length m.lines + 4
 section_length lock l m on =
     let q = length m.lines in
     let m1 : Made = with_new (Acquire lock false) on m in
-    let m2 : Made = with_flow_line l (m1, Some (length m.lines)) in
-    let m3 : Made = with_new (MergeIgnore ((length m.lines + 1) ∷ [])) None m2 in
+    let m2 : Made = with_flow_line l (m1, length m.lines ∷ []) in
+    let m3 : Made = with_new (MergeIgnore ((length m.lines + 1) ∷ [])) [] m2 in
     let a : length m1.lines ≡ length m.lines + 1 = new_length (Acquire lock false) on m in
-    let b : length m2.lines ≡ length m1.lines + 1 = line_length l (m1, Some (length m.lines)) in
-    let c : length m3.lines ≡ length m2.lines + 1 = new_length (MergeIgnore ((length m.lines + 1) ∷ [])) None m2 in
-    let d : length (in_section lock l (m, on)).lines ≡ length m3.lines + 1 = new_length (Release (length m.lines)) (Some (length m.lines + 2)) m3 in
+    let b : length m2.lines ≡ length m1.lines + 1 = line_length l (m1, length m.lines ∷ []) in
+    let c : length m3.lines ≡ length m2.lines + 1 = new_length (MergeIgnore ((length m.lines + 1) ∷ [])) [] m2 in
+    let d : length (in_section lock l (m, on)).lines ≡ length m3.lines + 1 = new_length (Release (length m.lines)) ((length m.lines + 2) ∷ []) m3 in
     omega arith
 
-pub section_past : (lock : ℕ) (l : Line) (m : Made) (on : Option ℕ) (x : Made) → length x.lines ≤ length m.lines + 4 → IsPast x → IsPast (in_section lock l (m, on))
+pub section_past : (lock : ℕ) (l : Line) (m : Made) (on : List ℕ) (x : Made) → length x.lines ≤ length m.lines + 4 → IsPast x → IsPast (in_section lock l (m, on))
 section_past lock l m on x h p = past_more x (in_section lock l (m, on)) (let s : length (in_section lock l (m, on)).lines ≡ length m.lines + 4 = section_length lock l m on in omega arith) p
 
-pub section_is : (lock : ℕ) (l : Line) (on : Option ℕ) (m m1 m2 m3 m4 : Made) (a s t : ℕ) (es : List ℕ) → m1 ≡ with_new (Acquire lock false) on m → a ≡ length m.lines → m2 ≡ with_flow_line l (m1, Some a) → s ≡ length m1.lines → es ≡ s ∷ [] → m3 ≡ with_new (MergeIgnore es) None m2 → t ≡ length m2.lines →
-    m4 ≡ with_new (Release a) (Some t) m3 → m4 ≡ in_section lock l (m, on)
+pub section_is : (lock : ℕ) (l : Line) (on : List ℕ) (m m1 m2 m3 m4 : Made) (a s t : ℕ) (es : List ℕ) → m1 ≡ with_new (Acquire lock false) on m → a ≡ length m.lines → m2 ≡ with_flow_line l (m1, a ∷ []) → s ≡ length m1.lines → es ≡ s ∷ [] → m3 ≡ with_new (MergeIgnore es) [] m2 → t ≡ length m2.lines →
+    m4 ≡ with_new (Release a) (t ∷ []) m3 → m4 ≡ in_section lock l (m, on)
 section_is lock l on m m1 m2 m3 m4 a s t es e1 ea e2 es_is ees e3 et e4 =
-    let two : m2 ≡ with_flow_line l (with_new (Acquire lock false) on m, Some (length m.lines)) = e2 ∙ (ap (λ z. with_flow_line l (z, Some a)) e1 ∙ ap (λ z. with_flow_line l (with_new (Acquire lock false) on m, Some z)) ea) in
+    let two : m2 ≡ with_flow_line l (with_new (Acquire lock false) on m, length m.lines ∷ []) = e2 ∙ (ap (λ z. with_flow_line l (z, a ∷ [])) e1 ∙ ap (λ z. with_flow_line l (with_new (Acquire lock false) on m, z ∷ [])) ea) in
     let c1 : length (with_new (Acquire lock false) on m).lines ≡ length m.lines + 1 = new_length (Acquire lock false) on m in
     let d1 : length m1.lines ≡ length m.lines + 1 = ap (λ (z : Made). length z.lines) e1 ∙ c1 in
-    let d2 : length m2.lines ≡ length m1.lines + 1 = ap (λ (z : Made). length z.lines) e2 ∙ line_length l (m1, Some a) in
+    let d2 : length m2.lines ≡ length m1.lines + 1 = ap (λ (z : Made). length z.lines) e2 ∙ line_length l (m1, a ∷ []) in
     let events : es ≡ (length m.lines + 1) ∷ [] = ees ∙ ap (λ z. z ∷ []) (es_is ∙ d1) in
-    let three : m3 ≡ with_new (MergeIgnore ((length m.lines + 1) ∷ [])) None (with_flow_line l (with_new (Acquire lock false) on m, Some (length m.lines))) = e3 ∙ (ap (λ z. with_new (MergeIgnore z) None m2) events ∙ ap (λ z. with_new (MergeIgnore ((length m.lines + 1) ∷ [])) None z) two) in
+    let three : m3 ≡ with_new (MergeIgnore ((length m.lines + 1) ∷ [])) [] (with_flow_line l (with_new (Acquire lock false) on m, length m.lines ∷ [])) = e3 ∙ (ap (λ z. with_new (MergeIgnore z) [] m2) events ∙ ap (λ z. with_new (MergeIgnore ((length m.lines + 1) ∷ [])) [] z) two) in
     let last : t ≡ length m.lines + 2 = omega arith in
-    e4 ∙ (ap (λ z. with_new (Release z) (Some t) m3) ea ∙ (ap (λ z. with_new (Release (length m.lines)) (Some z) m3) last ∙ ap (λ z. with_new (Release (length m.lines)) (Some (length m.lines + 2)) z) three))
+    e4 ∙ (ap (λ z. with_new (Release z) (t ∷ []) m3) ea ∙ (ap (λ z. with_new (Release (length m.lines)) (z ∷ []) m3) last ∙ ap (λ z. with_new (Release (length m.lines)) ((length m.lines + 2) ∷ []) z) three))
 
-pub by_longer : (o : Option ℕ) (l : Line) (r : Made × Option ℕ) → length r.0.lines + 1 ≤ length (with_line_by o l r).lines
+pub by_longer : (o : Option ℕ) (l : Line) (r : Made × List ℕ) → length r.0.lines + 1 ≤ length (with_line_by o l r).lines
 by_longer None l r = let k : length (with_flow_line l r).lines ≡ length r.0.lines + 1 = line_length l r in omega arith
 by_longer (Some lock) l r = let k : length (in_section lock l (r.0, r.1)).lines ≡ length r.0.lines + 4 = section_length lock l r.0 r.1 in omega arith
 
-pub by_past : (o : Option ℕ) (l : Line) (r : Made × Option ℕ) → IsPast r.0 → IsPast (with_line_by o l r)
+pub by_past : (o : Option ℕ) (l : Line) (r : Made × List ℕ) → IsPast r.0 → IsPast (with_line_by o l r)
 by_past o l r p = past_more r.0 (with_line_by o l r) (let k : length r.0.lines + 1 ≤ length (with_line_by o l r).lines = by_longer o l r in omega arith) p

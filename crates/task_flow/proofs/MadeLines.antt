@@ -4,7 +4,7 @@ use Rattle.std.specs.Prelude.{Contains, filter, flat_map, Option, Some, None, sl
 use Rattle.std.specs.List.{list_any}
 use Rattle.std.proofs.lemmas.Bool.{true≢false, cases_lt}
 use Rattle.std.proofs.lemmas.Option.{none-some, slice_get_within}
-use Rattle.basics.proofs.ListFacts.{contains_none, filter_contains, map_contains}
+use Rattle.basics.proofs.ListFacts.{contains_cases, contains_none, contains_here, filter_contains, map_contains}
 use Rattle.graph_terms.specs.declared.verb.Line.{Line}
 use Rattle.graph_terms.specs.declared.verb.Verb.TheVariants.{MergeIgnore, Acquire, Release}
 use Rattle.graph_terms.specs.Graph.{GraphValue}
@@ -16,10 +16,10 @@ use Rattle.flow_order.specs.SourceParts.{has, is_large, down_from, tied_by, leas
 use Rattle.flow_order.proofs.Lists.{falls_down, falls_filter, falls_least, least_within, down_below}
 use Rattle.basics.proofs.ListParts.{got_left, got_end, at_left, at_end, got_cases}
 use Rattle.flow_order.proofs.SourceFacts.{sources_of}
-use Rattle.task_flow.proofs.Standing.{Leaf, Waits, IsOwn, IsSection, Each, OwnAt, Standing, Kept, new_line, flow_line, dead, IsPart, place_below, wait_for_is, waits_same, each_stays, own_at_stays, merged_stays, held_stays}
+use Rattle.task_flow.proofs.Standing.{Leaf, Waits, IsOwn, IsSection, Each, OwnAt, Standing, Kept, new_line, flow_line, dead, leaves_same, flat_leaf, IsPart, place_below, wait_for_is, waits_same, each_stays, own_at_stays, merged_stays, held_stays}
 
 -- the next line of the flow, at the end
-module _ (f : GraphValue) (commute : Bool) (flow : IsFlow f) (n : ℕ) (next : n < length f.lines) (m : Made) (on : Option ℕ) (labels : List (List ℕ)) (st : Standing f commute n m labels) (w : Waits labels (length m.lines) on (λ x. Contains (sources_of f commute n) x)) where
+module _ (f : GraphValue) (commute : Bool) (flow : IsFlow f) (n : ℕ) (next : n < length f.lines) (m : Made) (on : List ℕ) (labels : List (List ℕ)) (st : Standing f commute n m labels) (w : Waits labels (length m.lines) on (λ x. Contains (sources_of f commute n) x)) where
   below_end : (i : ℕ) → i < n → place_in m i < length m.lines
   below_end i h = place_below f commute flow n (omega arith) m labels st i h
 
@@ -106,19 +106,19 @@ module _ (f : GraphValue) (commute : Bool) (flow : IsFlow f) (n : ℕ) (next : n
     lines1 = m.lines ++ acquire ∷ []
 
     abbrev sum : Line
-    sum = flow_line f n (Some (length m.lines))
+    sum = flow_line f n (length m.lines ∷ [])
 
     abbrev lines2 : List Line
     lines2 = lines1 ++ sum ∷ []
 
     abbrev merge : Line
-    merge = new_line (m.first + length lines2) (MergeIgnore ((length m.lines + 1) ∷ [])) None
+    merge = new_line (m.first + length lines2) (MergeIgnore ((length m.lines + 1) ∷ [])) []
 
     abbrev lines3 : List Line
     lines3 = lines2 ++ merge ∷ []
 
     abbrev release : Line
-    release = new_line (m.first + length lines3) (Release (length m.lines)) (Some (length m.lines + 2))
+    release = new_line (m.first + length lines3) (Release (length m.lines)) ((length m.lines + 2) ∷ [])
 
     abbrev lines4 : List Line
     lines4 = lines3 ++ release ∷ []
@@ -138,13 +138,12 @@ module _ (f : GraphValue) (commute : Bool) (flow : IsFlow f) (n : ℕ) (next : n
     count4 : length lines4 ≡ length m.lines + 4
     count4 = let a : length lines4 ≡ length lines3 + 1 = length-append lines3 (release ∷ []) in let b : length lines3 ≡ length m.lines + 3 = count3 in omega arith
 
-    -- what leads to the acquire, by its event
-    abbrev label_of : Option ℕ → List ℕ
-    label_of None = []
-    label_of (Some e) = slice_index_or labels e []
+    -- what leads to the acquire, by its events
+    abbrev label : List ℕ
+    label = flat_map (λ e. slice_index_or labels e []) on
 
     abbrev marks1 : List (List ℕ)
-    marks1 = labels ++ label_of on ∷ []
+    marks1 = labels ++ label ∷ []
 
     abbrev marks2 : List (List ℕ)
     marks2 = marks1 ++ (n ∷ []) ∷ []
@@ -156,7 +155,7 @@ module _ (f : GraphValue) (commute : Bool) (flow : IsFlow f) (n : ℕ) (next : n
     marks4 = marks3 ++ dead f n ∷ []
 
     size1 : length marks1 ≡ length m.lines + 1
-    size1 = let a : length marks1 ≡ length labels + 1 = length-append labels (label_of on ∷ []) in let b : length labels ≡ length m.lines = st.labelled in omega arith
+    size1 = let a : length marks1 ≡ length labels + 1 = length-append labels (label ∷ []) in let b : length labels ≡ length m.lines = st.labelled in omega arith
 
     size2 : length marks2 ≡ length m.lines + 2
     size2 = let a : length marks2 ≡ length marks1 + 1 = length-append marks1 ((n ∷ []) ∷ []) in let b : length marks1 ≡ length m.lines + 1 = size1 in omega arith
@@ -186,7 +185,7 @@ module _ (f : GraphValue) (commute : Bool) (flow : IsFlow f) (n : ℕ) (next : n
     held_kept : Kept n m held labels marks4
     held_kept = record {
       lines = λ k l at. (let b : k < length m.lines = slice_get_within m.lines k l at in line_at1 k (omega arith) ∙ (got_left m.lines acquire k b ∙ at));
-      marks = λ k h. (let l : length labels ≡ length m.lines = st.labelled in mark_at1 k (omega arith) ∙ at_left labels (label_of on) [] k (omega arith));
+      marks = λ k h. (let l : length labels ≡ length m.lines = st.labelled in mark_at1 k (omega arith) ∙ at_left labels label [] k (omega arith));
       places = λ i h. (let l : length m.places ≡ n = st.places in at_left m.places (length lines1) 0 i (omega arith));
       first = refl;
       merges = λ x c. c;
@@ -201,14 +200,14 @@ module _ (f : GraphValue) (commute : Bool) (flow : IsFlow f) (n : ℕ) (next : n
     at_sum : slice_get lines4 (length m.lines + 1) ≡ Some sum
     at_sum = line_at2 (length m.lines + 1) (omega arith) ∙ (ap (slice_get lines2) (sym count1) ∙ got_end lines1 sum)
 
-    at_merge : slice_get lines4 (length m.lines + 2) ≡ Some (new_line (m.first + (length m.lines + 2)) (MergeIgnore ((length m.lines + 1) ∷ [])) None)
-    at_merge = line_at (length m.lines + 2) (omega arith) ∙ (ap (slice_get lines3) (sym count2) ∙ (got_end lines2 merge ∙ ap (λ z. Some (new_line (m.first + z) (MergeIgnore ((length m.lines + 1) ∷ [])) None)) count2))
+    at_merge : slice_get lines4 (length m.lines + 2) ≡ Some (new_line (m.first + (length m.lines + 2)) (MergeIgnore ((length m.lines + 1) ∷ [])) [])
+    at_merge = line_at (length m.lines + 2) (omega arith) ∙ (ap (slice_get lines3) (sym count2) ∙ (got_end lines2 merge ∙ ap (λ z. Some (new_line (m.first + z) (MergeIgnore ((length m.lines + 1) ∷ [])) [])) count2))
 
-    at_release : slice_get lines4 (length m.lines + 3) ≡ Some (new_line (m.first + (length m.lines + 3)) (Release (length m.lines)) (Some (length m.lines + 2)))
-    at_release = ap (slice_get lines4) (sym count3) ∙ (got_end lines3 release ∙ ap (λ z. Some (new_line (m.first + z) (Release (length m.lines)) (Some (length m.lines + 2)))) count3)
+    at_release : slice_get lines4 (length m.lines + 3) ≡ Some (new_line (m.first + (length m.lines + 3)) (Release (length m.lines)) ((length m.lines + 2) ∷ []))
+    at_release = ap (slice_get lines4) (sym count3) ∙ (got_end lines3 release ∙ ap (λ z. Some (new_line (m.first + z) (Release (length m.lines)) ((length m.lines + 2) ∷ []))) count3)
 
-    mark_acquire : slice_index_or marks4 (length m.lines) [] ≡ label_of on
-    mark_acquire = mark_at1 (length m.lines) (omega arith) ∙ (ap (λ z. slice_index_or marks1 z []) (sym st.labelled) ∙ at_end labels (label_of on) [])
+    mark_acquire : slice_index_or marks4 (length m.lines) [] ≡ label
+    mark_acquire = mark_at1 (length m.lines) (omega arith) ∙ (ap (λ z. slice_index_or marks1 z []) (sym st.labelled) ∙ at_end labels label [])
 
     mark_sum : slice_index_or marks4 (length m.lines + 1) [] ≡ n ∷ []
     mark_sum = mark_at2 (length m.lines + 1) (omega arith) ∙ (ap (λ z. slice_index_or marks2 z []) (sym size1) ∙ at_end marks1 (n ∷ []) [])
@@ -220,16 +219,32 @@ module _ (f : GraphValue) (commute : Bool) (flow : IsFlow f) (n : ℕ) (next : n
     mark_release = ap (λ z. slice_index_or marks4 z []) (sym size3) ∙ at_end marks3 (dead f n) []
 
     -- the acquire waits for what the line waits for, and the line for the acquire
-    acquire_waits : (o : Option ℕ) → slice_index_or marks4 (length m.lines) [] ≡ label_of o → Waits labels (length m.lines) o (λ x. Contains (sources_of f commute n) x) → Waits marks4 (length m.lines) o (Leaf marks4 (length m.lines))
-    acquire_waits None is w = λ x c. contains_none x (subst (λ z. Contains z x) is c)
-    acquire_waits (Some e) is w =
-        let b : e < length m.lines = w.0 in
-        let same : slice_index_or marks4 (length m.lines) [] ≡ slice_index_or marks4 e [] = is ∙ sym (held_kept.marks e b) in
-        (b, λ x. (λ c. subst (λ z. Contains z x) same c, λ c. subst (λ z. Contains z x) (sym same) c))
+    acquire_waits : Waits marks4 (length m.lines) on (Leaf marks4 (length m.lines))
+    acquire_waits =
+        let s = leaves_same labels marks4 on (λ e c. held_kept.marks e (w.below e c)) in
+        record {
+          below = w.below;
+          once = w.once;
+          few = w.few;
+          leaves = λ x. (
+            λ c. (s x).0 ((flat_leaf labels on x).0 (subst (λ z. Contains z x) mark_acquire c)),
+            λ r. subst (λ z. Contains z x) (sym mark_acquire) ((flat_leaf labels on x).1 ((s x).1 r)),
+          );
+        }
 
-    sum_waits : (o : Option ℕ) → slice_index_or marks4 (length m.lines) [] ≡ label_of o → Waits labels (length m.lines) o (λ x. Contains (sources_of f commute n) x) → Waits marks4 (length m.lines + 1) (Some (length m.lines)) (λ x. Contains (sources_of f commute n) x)
-    sum_waits None is w = ((let z : length m.lines < length m.lines + 1 = omega arith in z), λ x. (λ c. absurd (w x c), λ c. absurd (contains_none x (subst (λ z. Contains z x) is c))))
-    sum_waits (Some e) is w = ((let z : length m.lines < length m.lines + 1 = omega arith in z), λ x. (λ c. subst (λ z. Contains z x) (sym is) ((w.1 x).0 c), λ c. (w.1 x).1 (subst (λ z. Contains z x) is c)))
+    sum_waits : Waits marks4 (length m.lines + 1) (length m.lines ∷ []) (λ x. Contains (sources_of f commute n) x)
+    sum_waits = record {
+      below = λ e c. elim (contains_cases (length m.lines) [] e c) [ inl same ↦ (let z : length m.lines ≡ e = same in omega arith) | inr none ↦ absurd (contains_none e none) ];
+      once = refl;
+      few = (let z : 1 ≤ 1 = omega arith in z);
+      leaves = λ x. (
+        λ c. (length m.lines, contains_here (length m.lines) [], subst (λ z. Contains z x) (sym mark_acquire) ((flat_leaf labels on x).1 ((w.leaves x).0 c))),
+        λ r. elim (contains_cases (length m.lines) [] r.0 r.1) [
+          | inl same ↦ (w.leaves x).1 ((flat_leaf labels on x).0 (subst (λ z. Contains z x) mark_acquire (subst (λ z. Leaf marks4 z x) (sym same) r.2)))
+          | inr none ↦ absurd (contains_none r.0 none)
+        ],
+      );
+    }
 
     abbrev new_section : IsSection f commute (suc n) held marks4 (length m.lines)
     new_section = record {
@@ -242,7 +257,7 @@ module _ (f : GraphValue) (commute : Bool) (flow : IsFlow f) (n : ℕ) (next : n
       merge = at_merge;
       release = at_release;
       place = held_place;
-      waits = acquire_waits on mark_acquire w;
+      waits = acquire_waits;
       merge_label = mark_merge;
       release_label = mark_release;
     }
@@ -254,7 +269,7 @@ module _ (f : GraphValue) (commute : Bool) (flow : IsFlow f) (n : ℕ) (next : n
         | inr now ↦ inr (inr ((let z : 0 < st.guards + 3 = omega arith in z), length m.lines, new_section, inr (inl (now.0 ∙ count2))))
         | inl old2 ↦ elim (got_cases lines1 sum k l old2.1) [
           | inr now ↦ inl (subst (λ z. IsOwn f commute (suc n) held marks4 z l) (sym (now.0 ∙ count1)) (subst (λ z. IsOwn f commute (suc n) held marks4 (length m.lines + 1) z) now.1
-              (new_own held marks4 held_kept (length m.lines + 1) (omega arith) held_place sum at_sum refl refl mark_sum (sum_waits on mark_acquire w))))
+              (new_own held marks4 held_kept (length m.lines + 1) (omega arith) held_place sum at_sum refl refl mark_sum sum_waits)))
           | inl old1 ↦ elim (got_cases m.lines acquire k l old1.1) [
             | inr now ↦ inr (inr ((let z : 0 < st.guards + 3 = omega arith in z), length m.lines, new_section, inl now.0))
             | inl old ↦ each_stays f commute n (suc n) (omega arith) m held labels marks4 held_kept st.guards (st.guards + 3) (omega arith) k l old.0 (st.each k l old.1)
@@ -307,12 +322,12 @@ module _ (f : GraphValue) (commute : Bool) (flow : IsFlow f) (j : ℕ) (within :
       subst (IsPart f commute flow j within) b.2 (least_part [] (λ i. list_any (λ a. accesses_tie f commute a b.0) (accesses f i)))
 
 -- with the next line
-next_stands : (f : GraphValue) (commute : Bool) (flow : IsFlow f) (n : ℕ) (next : n < length f.lines) (r : Made × Option ℕ) (labels : List (List ℕ)) → Standing f commute n r.0 labels → Waits labels (length r.0.lines) r.1 (λ x. Contains (sources_of f commute n) x) → (b : Bool) → is_contended f commute n ≡ b →
+next_stands : (f : GraphValue) (commute : Bool) (flow : IsFlow f) (n : ℕ) (next : n < length f.lines) (r : Made × List ℕ) (labels : List (List ℕ)) → Standing f commute n r.0 labels → Waits labels (length r.0.lines) r.1 (λ x. Contains (sources_of f commute n) x) → (b : Bool) → is_contended f commute n ≡ b →
     (labels' : List (List ℕ)) × Standing f commute (suc n) (with_line_by (cond b (Some (lock_for f commute n)) None) (line_in f n) r) labels'
 next_stands f commute flow n next r labels st w false e = (labels ++ (n ∷ []) ∷ [], flow_line_stands f commute flow n next r.0 r.1 labels st w e)
 next_stands f commute flow n next r labels st w true e = (marks4 f commute flow n next r.0 r.1 labels st w e, section_stands f commute flow n next r.0 r.1 labels st w e)
 
-first_by : (o : Option ℕ) (l : Line) (r : Made × Option ℕ) → (with_line_by o l r).first ≡ r.0.first
+first_by : (o : Option ℕ) (l : Line) (r : Made × List ℕ) → (with_line_by o l r).first ≡ r.0.first
 first_by None l r = refl
 first_by (Some lock) l r = refl
 

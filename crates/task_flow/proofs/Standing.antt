@@ -1,6 +1,6 @@
 -- What stands while the graph of a flow is made: each line is one of the flow, a merge, or in a section beside a line of the flow; and each has leaves, the lines of the flow that lead to it through others alone.
 use Rattle.std.proofs.Common.{◌≡◌, ℕ, zero, suc, ◌+◌, ◌<◌, ◌≤◌, Bool, true, false, ◌⊎◌, inl, inr, List, [], ◌∷◌, ◌++◌, length, map, take, drop, refl, sym, ◌∙◌, ap, subst, length-append, arith}
-use Rattle.std.specs.Prelude.{◌↔◌, Contains, Option, Some, None, find, flat_map, nat_eq, slice_get, slice_index_or, bytes_eq}
+use Rattle.std.specs.Prelude.{◌↔◌, Contains, Option, Some, None, option_to_list, find, flat_map, nat_eq, slice_get, slice_index_or, bytes_eq}
 use Rattle.std.specs.Option.{option_map_or}
 use Rattle.std.proofs.lemmas.Bool.{true≢false}
 use Rattle.std.proofs.lemmas.List.{length-map}
@@ -27,10 +27,12 @@ Leaf labels e x = Contains (slice_index_or labels e []) x
 abbrev pub LeafOf : List (List ℕ) → List ℕ → ℕ → Type 0
 LeafOf labels es x = (e : ℕ) × Contains es e × Leaf labels e x
 
--- an event below line k whose leaves are those of a rule, or none where the rule holds of none
-abbrev pub Waits : List (List ℕ) → ℕ → Option ℕ → (ℕ → Type 0) → Type 0
-Waits labels k None P = (x : ℕ) → P x → ⊥
-Waits labels k (Some e) P = (e < k) × ((x : ℕ) → P x ↔ Leaf labels e x)
+-- events below line k, one at most, whose leaves are those of a rule
+pub record Waits (labels : List (List ℕ)) (k : ℕ) (on : List ℕ) (P : ℕ → Type 0) : Type 0 where
+  pub below : (e : ℕ) → Contains on e → e < k
+  pub once : repeats nat_eq on ≡ false
+  pub few : length on ≤ 1
+  pub leaves : (x : ℕ) → P x ↔ LeafOf labels on x
 
 abbrev is_merge : Verb → Bool
 is_merge (Merge es) = true
@@ -50,7 +52,7 @@ pub record IsOwn (f : GraphValue) (commute : Bool) (n : ℕ) (m : Made) (labels 
 pub record IsMerge (m : Made) (labels : List (List ℕ)) (k : ℕ) (l : Line) : Type 0 where
   pub events : List ℕ
   pub verb : l.verb ≡ Merge events
-  pub on : l.on ≡ None
+  pub on : l.on ≡ []
   pub name : l.name ≡ new_name (m.first + k)
   pub some : 0 < length events
   pub few : length events ≤ 64
@@ -60,10 +62,10 @@ pub record IsMerge (m : Made) (labels : List (List ℕ)) (k : ℕ) (l : Line) : 
   pub noted : Contains m.merges (events, k)
 
 -- a line that is none of the flow, and one that is
-abbrev pub new_line : ℕ → Verb → Option ℕ → Line
+abbrev pub new_line : ℕ → Verb → List ℕ → Line
 new_line n v o = record { name = new_name n; verb = v; «on» = o }
 
-abbrev pub flow_line : GraphValue → ℕ → Option ℕ → Line
+abbrev pub flow_line : GraphValue → ℕ → List ℕ → Line
 flow_line f i o = record { name = (line_in f i).name; verb = (line_in f i).verb; «on» = o }
 
 -- the leaves of what stands in a section behind its line: that line, and a number that no line of the flow has
@@ -75,11 +77,11 @@ pub record IsSection (f : GraphValue) (commute : Bool) (n : ℕ) (m : Made) (lab
   pub line : ℕ
   pub below : line < n
   pub contended : is_contended f commute line ≡ true
-  pub on : Option ℕ
+  pub on : List ℕ
   pub acquire : slice_get m.lines q ≡ Some (new_line (m.first + q) (Acquire (lock_for f commute line) false) on)
-  pub sum : slice_get m.lines (q + 1) ≡ Some (flow_line f line (Some q))
-  pub merge : slice_get m.lines (q + 2) ≡ Some (new_line (m.first + (q + 2)) (MergeIgnore ((q + 1) ∷ [])) None)
-  pub release : slice_get m.lines (q + 3) ≡ Some (new_line (m.first + (q + 3)) (Release q) (Some (q + 2)))
+  pub sum : slice_get m.lines (q + 1) ≡ Some (flow_line f line (q ∷ []))
+  pub merge : slice_get m.lines (q + 2) ≡ Some (new_line (m.first + (q + 2)) (MergeIgnore ((q + 1) ∷ [])) [])
+  pub release : slice_get m.lines (q + 3) ≡ Some (new_line (m.first + (q + 3)) (Release q) ((q + 2) ∷ []))
   pub place : place_in m line ≡ q + 1
   pub waits : Waits labels q on (Leaf labels q)
   pub merge_label : slice_index_or labels (q + 2) [] ≡ dead f line
@@ -121,19 +123,24 @@ pub record Grown (f : GraphValue) (commute : Bool) (n : ℕ) (m : Made) (labels 
   pub first : m'.first ≡ m.first
   pub same : (k : ℕ) → k < length m.lines → slice_index_or labels' k [] ≡ slice_index_or labels k []
 
-waits_iff : (labels : List (List ℕ)) (k : ℕ) (o : Option ℕ) (P Q : ℕ → Type 0) → ((x : ℕ) → P x ↔ Q x) → Waits labels k o P → Waits labels k o Q
-waits_iff labels k None P Q h w = λ x q. w x ((h x).1 q)
-waits_iff labels k (Some e) P Q h w = (w.0, λ x. (λ q. (w.1 x).0 ((h x).1 q), λ l. (h x).0 ((w.1 x).1 l)))
+waits_iff : (labels : List (List ℕ)) (k : ℕ) (on : List ℕ) (P Q : ℕ → Type 0) → ((x : ℕ) → P x ↔ Q x) → Waits labels k on P → Waits labels k on Q
+waits_iff labels k on P Q h w = record { below = w.below; once = w.once; few = w.few; leaves = λ x. (λ q. (w.leaves x).0 ((h x).1 q), λ l. (h x).0 ((w.leaves x).1 l)) }
 
 -- labels that agree on the events that are named
-pub waits_same : (labels labels' : List (List ℕ)) (k k' : ℕ) (o : Option ℕ) (P : ℕ → Type 0) → k ≤ k' → ((e : ℕ) → e < k → slice_index_or labels' e [] ≡ slice_index_or labels e []) → Waits labels k o P → Waits labels' k' o P
-waits_same labels labels' k k' None P b h w = w
-waits_same labels labels' k k' (Some e) P b h w = let c : e < k = w.0 in (omega arith, λ x. (λ p. subst (λ z. Contains z x) (sym (h e c)) ((w.1 x).0 p), λ l. (w.1 x).1 (subst (λ z. Contains z x) (h e c) l)))
-
 pub leaves_same : (labels labels' : List (List ℕ)) (es : List ℕ) → ((e : ℕ) → Contains es e → slice_index_or labels' e [] ≡ slice_index_or labels e []) → (x : ℕ) → LeafOf labels es x ↔ LeafOf labels' es x
 leaves_same labels labels' es h x = (λ r. (r.0, r.1, subst (λ z. Contains z x) (sym (h r.0 r.1)) r.2), λ r. (r.0, r.1, subst (λ z. Contains z x) (h r.0 r.1) r.2))
 
-flat_leaf : (labels : List (List ℕ)) (es : List ℕ) (x : ℕ) → Contains (flat_map (λ e. slice_index_or labels e []) es) x ↔ LeafOf labels es x
+pub waits_same : (labels labels' : List (List ℕ)) (k k' : ℕ) (on : List ℕ) (P : ℕ → Type 0) → k ≤ k' → ((e : ℕ) → e < k → slice_index_or labels' e [] ≡ slice_index_or labels e []) → Waits labels k on P → Waits labels' k' on P
+waits_same labels labels' k k' on P b h w =
+    let s = leaves_same labels labels' on (λ e c. h e (w.below e c)) in
+    record {
+      below = λ e c. (let d : e < k = w.below e c in omega arith);
+      once = w.once;
+      few = w.few;
+      leaves = λ x. (λ p. (s x).0 ((w.leaves x).0 p), λ l. (w.leaves x).1 ((s x).1 l));
+    }
+
+pub flat_leaf : (labels : List (List ℕ)) (es : List ℕ) (x : ℕ) → Contains (flat_map (λ e. slice_index_or labels e []) es) x ↔ LeafOf labels es x
 flat_leaf labels es x = (to es, λ r. back es r.0 r.1 r.2)
   where
     to : (es : List ℕ) → Contains (flat_map (λ e. slice_index_or labels e []) es) x → LeafOf labels es x
@@ -198,19 +205,18 @@ module _ (f : GraphValue) (commute : Bool) (n n' : ℕ) (more : n ≤ n') (m m' 
         noted = kept.merges (o.events, k) o.noted;
       }
 
-  pub named_stays : (q k : ℕ) (v : Verb) (o : Option ℕ) → slice_get m.lines q ≡ Some (new_line (m.first + k) v o) → slice_get m'.lines q ≡ Some (new_line (m'.first + k) v o)
+  pub named_stays : (q k : ℕ) (v : Verb) (o : List ℕ) → slice_get m.lines q ≡ Some (new_line (m.first + k) v o) → slice_get m'.lines q ≡ Some (new_line (m'.first + k) v o)
   named_stays q k v o at = kept.lines q _ at ∙ ap (λ z. Some (new_line (z + k) v o)) (sym kept.first)
 
-  pub waits_stay : (q : ℕ) (o : Option ℕ) → q < length m.lines → Waits labels q o (Leaf labels q) → Waits labels' q o (Leaf labels' q)
-  waits_stay q None h w = λ x c. w x (subst (λ z. Contains z x) (kept.marks q h) c)
-  waits_stay q (Some e) h w =
-      let b : e < q = w.0 in (
-        b,
-        λ x. (
-          λ c. subst (λ z. Contains z x) (sym (kept.marks e (omega arith))) ((w.1 x).0 (subst (λ z. Contains z x) (kept.marks q h) c)),
-          λ c. subst (λ z. Contains z x) (sym (kept.marks q h)) ((w.1 x).1 (subst (λ z. Contains z x) (kept.marks e (omega arith)) c)),
-        ),
-      )
+  pub waits_stay : (q : ℕ) (on : List ℕ) → q < length m.lines → Waits labels q on (Leaf labels q) → Waits labels' q on (Leaf labels' q)
+  waits_stay q on h w =
+      let s = leaves_same labels labels' on (λ e c. (let b : e < q = w.below e c in kept.marks e (omega arith))) in
+      record {
+        below = w.below;
+        once = w.once;
+        few = w.few;
+        leaves = λ x. (λ c. (s x).0 ((w.leaves x).0 (subst (λ z. Contains z x) (kept.marks q h) c)), λ r. subst (λ z. Contains z x) (sym (kept.marks q h)) ((w.leaves x).1 ((s x).1 r)));
+      }
 
   abbrev pub section_stays : (q : ℕ) → IsSection f commute n m labels q → IsSection f commute n' m' labels' q
   section_stays q s =
@@ -222,8 +228,8 @@ module _ (f : GraphValue) (commute : Bool) (n n' : ℕ) (more : n ≤ n') (m m' 
         on = s.on;
         acquire = named_stays q q _ s.on s.acquire;
         sum = kept.lines (q + 1) _ s.sum;
-        merge = named_stays (q + 2) (q + 2) _ None s.merge;
-        release = named_stays (q + 3) (q + 3) _ (Some (q + 2)) s.release;
+        merge = named_stays (q + 2) (q + 2) _ [] s.merge;
+        release = named_stays (q + 3) (q + 3) _ ((q + 2) ∷ []) s.release;
         place = kept.places s.line s.below ∙ s.place;
         waits = waits_stay q s.on (omega arith) s.waits;
         merge_label = kept.marks (q + 2) (omega arith) ∙ s.merge_label;
@@ -370,7 +376,7 @@ module _ (f : GraphValue) (commute : Bool) (flow : IsFlow f) (n : ℕ) (within :
 
   -- one event for these
   abbrev pub EventOf : Made → List (List ℕ) → List ℕ → Made × Option ℕ → Type 0
-  EventOf m labels es r = (g : Grown f commute n m labels r.0) × Waits g.labels' (length r.0.lines) r.1 (λ x. LeafOf labels es x)
+  EventOf m labels es r = (g : Grown f commute n m labels r.0) × Waits g.labels' (length r.0.lines) (option_to_list r.1) (λ x. LeafOf labels es x)
 
   length_take : (k : ℕ) (xs : List ℕ) → length (take k xs) ≤ k
   length_take zero xs = omega arith
@@ -382,20 +388,14 @@ module _ (f : GraphValue) (commute : Bool) (flow : IsFlow f) (n : ℕ) (within :
   length_drop (suc k) [] = omega arith
   length_drop (suc k) (x ∷ xs) = let l : length (drop k xs) ≤ length xs = length_drop k xs in omega arith
 
+  waits_none : (labels : List (List ℕ)) (k : ℕ) → Waits labels k [] (λ x. LeafOf labels [] x)
+  waits_none labels k = record { below = λ e c. absurd (contains_none e c); once = refl; few = (let z : 0 ≤ 1 = omega arith in z); leaves = λ x. (λ r. r, λ r. r) }
+
   pub event_for_is : (fuel : ℕ) (es : List ℕ) (m : Made) (labels : List (List ℕ)) → Standing f commute n m labels → length es ≤ fuel → repeats nat_eq es ≡ false → ((e : ℕ) → Contains es e → e < length m.lines) → EventOf m labels es (event_for fuel es m)
-  event_for_is zero [] m labels st h once below = (grown_none f commute n m labels st, λ x r. contains_none r.0 r.1)
+  event_for_is zero [] m labels st h once below = (grown_none f commute n m labels st, waits_none labels (length m.lines))
   event_for_is zero (e ∷ es) m labels st h once below = absurd (let g : suc (length es) ≤ 0 = h in omega arith)
-  event_for_is (suc fuel) [] m labels st h once below = (grown_none f commute n m labels st, λ x r. contains_none r.0 r.1)
-  event_for_is (suc fuel) (e ∷ []) m labels st h once below = (
-    grown_none f commute n m labels st,
-    (
-      below e (contains_here e []),
-      λ x. (
-        λ r. elim (contains_cases e [] r.0 r.1) [ inl same ↦ subst (λ z. Leaf labels z x) (sym same) r.2 | inr none ↦ absurd (contains_none r.0 none) ],
-        λ l. (e, contains_here e [], l),
-      ),
-    ),
-  )
+  event_for_is (suc fuel) [] m labels st h once below = (grown_none f commute n m labels st, waits_none labels (length m.lines))
+  event_for_is (suc fuel) (e ∷ []) m labels st h once below = (grown_none f commute n m labels st, record { below = below; once = once; few = (let z : 1 ≤ 1 = omega arith in z); leaves = λ x. (λ r. r, λ r. r) })
   event_for_is (suc fuel) (e ∷ d ∷ es) m labels st h once below =
       let all : List ℕ = e ∷ d ∷ es in
       let front : List ℕ = take 64 (e ∷ d ∷ es) in
@@ -412,7 +412,7 @@ module _ (f : GraphValue) (commute : Bool) (flow : IsFlow f) (n : ℕ) (within :
       ]) in
       let kept : (x : ℕ) → Contains rest x → slice_index_or g.labels' x [] ≡ slice_index_or labels x [] = λ x c. g.same x (below x (drop_within 64 (e ∷ d ∷ es) x c)) in (
         grown_more f commute n m labels made.0 (event_for fuel (with_event rest made.1) made.0).0 g two.0,
-        waits_iff (two.0).labels' (length (event_for fuel (with_event rest made.1) made.0).0.lines) (event_for fuel (with_event rest made.1) made.0).1 (λ x. LeafOf g.labels' (with_event rest made.1) x) (λ x. LeafOf labels (e ∷ d ∷ es) x) (λ x. (
+        waits_iff (two.0).labels' (length (event_for fuel (with_event rest made.1) made.0).0.lines) (option_to_list (event_for fuel (with_event rest made.1) made.0).1) (λ x. LeafOf g.labels' (with_event rest made.1) x) (λ x. LeafOf labels (e ∷ d ∷ es) x) (λ x. (
           λ r. elim (with_event_cases rest made.1 r.0 r.1) [
             | inl old ↦ (r.0, drop_within 64 (e ∷ d ∷ es) r.0 old, subst (λ z. Contains z x) (kept r.0 old) r.2)
             | inr new ↦ (let s = (one.2 x).1 (subst (λ z. Leaf g.labels' z x) new r.2) in (s.0, take_within 64 (e ∷ d ∷ es) s.0 s.1, s.2))
@@ -445,7 +445,7 @@ module _ (f : GraphValue) (commute : Bool) (flow : IsFlow f) (n : ℕ) (within :
     pub falls : Falls p
     pub below : (i : ℕ) → Contains p i → i < n
 
-  part_event : (p : List ℕ) (m : Made) (labels : List (List ℕ)) → Standing f commute n m labels → IsPart p → (let r = event_for (length p) (map (place_in m) p) m in (g : Grown f commute n m labels r.0) × Waits g.labels' (length r.0.lines) r.1 (λ x. Contains p x))
+  part_event : (p : List ℕ) (m : Made) (labels : List (List ℕ)) → Standing f commute n m labels → IsPart p → (let r = event_for (length p) (map (place_in m) p) m in (g : Grown f commute n m labels r.0) × Waits g.labels' (length r.0.lines) (option_to_list r.1) (λ x. Contains p x))
   part_event p m labels st h =
       let size : length (map (place_in m) p) ≡ length p = length-map p (place_in m) in
       let e = event_for_is (length p) (map (place_in m) p) m labels st (omega arith) (places_once m labels st p h.falls h.below) (λ x c. (let i = map_contains (place_in m) p x c in subst (λ z. z < length m.lines) i.2 (place_below m labels st i.0 (h.below i.0 i.1)))) in
@@ -461,18 +461,18 @@ module _ (f : GraphValue) (commute : Bool) (flow : IsFlow f) (n : ℕ) (within :
     pub below : (e : ℕ) → Contains (option_map_or (with_event es) o es) e → e < count
     pub leaves : (x : ℕ) → LeafOf labels (option_map_or (with_event es) o es) x ↔ (LeafOf labels es x ⊎ Contains p x)
 
-  event_more : (es : List ℕ) (labels : List (List ℕ)) (count : ℕ) (o : Option ℕ) (p : List ℕ) → repeats nat_eq es ≡ false → ((e : ℕ) → Contains es e → e < count) → Waits labels count o (λ x. Contains p x) → EventMore es labels count o p
+  event_more : (es : List ℕ) (labels : List (List ℕ)) (count : ℕ) (o : Option ℕ) (p : List ℕ) → repeats nat_eq es ≡ false → ((e : ℕ) → Contains es e → e < count) → Waits labels count (option_to_list o) (λ x. Contains p x) → EventMore es labels count o p
   event_more es labels count None p once below w = record {
     once = once;
     below = below;
-    leaves = λ x. (λ r. inl r, λ r. elim r [ inl a ↦ a | inr c ↦ absurd (w x c) ]);
+    leaves = λ x. (λ r. inl r, λ r. elim r [ inl a ↦ a | inr c ↦ (let l = (w.leaves x).0 c in absurd (contains_none l.0 l.1)) ]);
   }
   event_more es labels count (Some e) p once below w = record {
     once = with_event_once es e once;
-    below = λ x c. elim (with_event_cases es e x c) [ inl old ↦ below x old | inr new ↦ subst (λ z. z < count) (sym new) w.0 ];
+    below = λ x c. elim (with_event_cases es e x c) [ inl old ↦ below x old | inr new ↦ subst (λ z. z < count) (sym new) (w.below e (contains_here e [])) ];
     leaves = λ x. (
-      λ r. elim (with_event_cases es e r.0 r.1) [ inl old ↦ inl (r.0, old, r.2) | inr new ↦ inr ((w.1 x).1 (subst (λ z. Leaf labels z x) new r.2)) ],
-      λ r. elim r [ inl a ↦ (a.0, old_in es e a.0 a.1, a.2) | inr c ↦ (e, new_in es e, (w.1 x).0 c) ],
+      λ r. elim (with_event_cases es e r.0 r.1) [ inl old ↦ inl (r.0, old, r.2) | inr new ↦ inr ((w.leaves x).1 (e, contains_here e [], subst (λ z. Leaf labels z x) new r.2)) ],
+      λ r. elim r [ inl a ↦ (a.0, old_in es e a.0 a.1, a.2) | inr c ↦ (let l = (w.leaves x).0 c in elim (contains_cases e [] l.0 l.1) [ inl same ↦ (e, new_in es e, subst (λ z. Leaf labels z x) (sym same) l.2) | inr none ↦ absurd (contains_none l.0 none) ]) ],
     );
   }
 

@@ -3,7 +3,7 @@ use Rattle.std.proofs.Common.{◌≡◌, ℕ, zero, suc, ◌+◌, ◌<◌, Bool,
 use Rattle.std.specs.Prelude.{Contains, Option, Some, None, map, slice_get, slice_index_or, option_map}
 use Rattle.std.specs.Option.{option_map_or}
 use Rattle.std.proofs.lemmas.Bool.{true≢false, cases_order, eq-eqb, eqb-true}
-use Rattle.std.proofs.lemmas.Option.{none-some, same_Some, slice_get_within, get_or_from_slice_get}
+use Rattle.std.proofs.lemmas.Option.{same_Some, slice_get_within, get_or_from_slice_get}
 use Rattle.std.proofs.lemmas.List.Elements.{Contains-append_cases, Contains-append_left, Contains-append_right}
 use Rattle.basics.proofs.ListFacts.{contains_cases, contains_none, contains_here, contains_there, contains_map, map_contains, contains_filter}
 use Rattle.graph_terms.specs.declared.verb.Edge.{Edge}
@@ -13,7 +13,7 @@ use Rattle.graph_terms.specs.declared.verb.Line.{Line}
 use Rattle.graph_terms.specs.declared.verb.Verb.{Verb}
 use Rattle.graph_terms.specs.declared.verb.Verb.TheVariants.{User, Trigger, Cancel, Merge, MergeIgnore, Phase, Arrive, Acquire, Release, Fill, Copy, Reduce, Task}
 use Rattle.graph_terms.specs.Graph.{GraphValue, locks, line_passes, is_acquire_of, is_release_of}
-use Rattle.graph_terms.specs.Edges.{edge, edges_from_some, verb_edges, line_edges, edges_after, edges}
+use Rattle.graph_terms.specs.Edges.{edge, on_edges, verb_edges, line_edges, edges_after, edges}
 use Rattle.graph_terms.specs.Fits.{IsGraph}
 use Rattle.graph_meaning.specs.Path.{Path, last}
 use Rattle.graph_terms.specs.Reservations.{Acquires, Releases}
@@ -50,22 +50,11 @@ edge_given before (l ∷ ls) e c = elim (Contains-append_cases (line_edges befor
 
 -- a line waits for another, or merges it
 abbrev pub Names : Line → ℕ → Type 0
-Names l x = (l.on ≡ Some x) ⊎ ((es : List ℕ) × (l.verb ≡ Merge es) × Contains es x)
+Names l x = Contains l.on x ⊎ ((es : List ℕ) × (l.verb ≡ Merge es) × Contains es x)
 
 -- or its merge ignores the other's fault
 abbrev Follows : Line → ℕ → Type 0
 Follows l x = Names l x ⊎ ((es : List ℕ) × (l.verb ≡ MergeIgnore es) × Contains es x)
-
-some_named : (o : Option ℕ) (k : ℕ) (e : Edge) → Contains (edges_from_some Passes o k) e → (o ≡ Some e.from) × (e.to ≡ k)
-some_named None k e c = absurd (contains_none e c)
-some_named (Some x) k e c = elim (contains_cases (edge x k Passes) [] e c) [
-  | inl same ↦ (ap (λ (y : Edge). Some y.from) same, sym (ap (λ (y : Edge). y.to) same))
-  | inr none ↦ absurd (contains_none e none)
-]
-
-named_some : (o : Option ℕ) (k x : ℕ) → o ≡ Some x → Contains (edges_from_some Passes o k) (edge x k Passes)
-named_some None k x h = absurd (none-some x h)
-named_some (Some y) k x h = subst (λ z. Contains (edge y k Passes ∷ []) (edge z k Passes)) (same_Some y x h) (contains_here (edge y k Passes) [])
 
 -- a line of a flow gives no edge by its verb
 own_gives : (b : List Line) (k : ℕ) (v : Verb) → uses_columns v ≡ true → verb_edges b k v ≡ []
@@ -83,7 +72,7 @@ own_gives b k (Copy x y s) h = refl
 own_gives b k (Reduce o x y s) h = refl
 own_gives b k (Task kernel) h = refl
 
--- the edges of merges
+-- the edges of events that are named
 merge_gives : (kind : EdgeKind) (es : List ℕ) (k : ℕ) (e : Edge) → Contains (map (λ x. edge x k kind) es) e → Contains es e.from × (e.to ≡ k)
 merge_gives kind es k e c = let x = map_contains (λ x. edge x k kind) es e c in (subst (λ z. Contains es z) (ap (λ (y : Edge). y.from) x.2) x.1, sym (ap (λ (y : Edge). y.to) x.2))
 
@@ -166,8 +155,8 @@ module _ (f : GraphValue) (commute : Bool) (flow : IsFlow f) (m : Made) (labels 
   edge_names e c =
       let r = edge_given [] m.lines e c in
       let len : length r.2 ≡ r.0 = (let z : length r.2 ≡ 0 + r.0 = r.4 in omega arith) in
-      let one : Follows r.1 e.from × (e.to ≡ r.0) = elim (Contains-append_cases (edges_from_some Passes r.1.on (length r.2)) (verb_edges r.2 (length r.2) r.1.verb) e r.5) [
-        | inl a ↦ (let s = some_named r.1.on (length r.2) e a in (inl (inl s.0), s.1 ∙ len))
+      let one : Follows r.1 e.from × (e.to ≡ r.0) = elim (Contains-append_cases (on_edges r.1.on (length r.2)) (verb_edges r.2 (length r.2) r.1.verb) e r.5) [
+        | inl a ↦ (let s = merge_gives Passes r.1.on (length r.2) e a in (inl (inl s.0), s.1 ∙ len))
         | inr b ↦ verb_named r.2 r.0 r.1 e r.3 len b
       ] in
       (r.1, ap (slice_get m.lines) one.1 ∙ r.3, one.0)
@@ -179,18 +168,18 @@ module _ (f : GraphValue) (commute : Bool) (flow : IsFlow f) (m : Made) (labels 
       let len : length r.0 ≡ k = (let z : length r.0 ≡ 0 + k = r.1 in omega arith) in
       subst (λ z. Contains (edges g) (edge x z kind)) len (r.2 (edge x (length r.0) kind) (given r.0 len))
 
-  on_edge : (k : ℕ) (l : Line) (x : ℕ) → slice_get m.lines k ≡ Some l → l.on ≡ Some x → Contains (edges g) (edge x k Passes)
-  on_edge k l x at on = edge_by k l x Passes at (λ b len. Contains-append_left (edges_from_some Passes l.on (length b)) (verb_edges b (length b) l.verb) (edge x (length b) Passes) (named_some l.on (length b) x on))
+  on_edge : (k : ℕ) (l : Line) (x : ℕ) → slice_get m.lines k ≡ Some l → Contains l.on x → Contains (edges g) (edge x k Passes)
+  on_edge k l x at on = edge_by k l x Passes at (λ b len. Contains-append_left (on_edges l.on (length b)) (verb_edges b (length b) l.verb) (edge x (length b) Passes) (contains_map (λ y. edge y (length b) Passes) l.on x on))
 
   names_edge : (k : ℕ) (l : Line) (x : ℕ) → slice_get m.lines k ≡ Some l → Names l x → Contains (passing_edges g) (edge x k Passes)
   names_edge k l x at named = contains_filter (λ (e : Edge). is_passing e.kind) (edges g) (edge x k Passes) (elim named [
     | inl on ↦ on_edge k l x at on
-    | inr es ↦ edge_by k l x Passes at (λ b len. Contains-append_right (edges_from_some Passes l.on (length b)) (verb_edges b (length b) l.verb) (edge x (length b) Passes)
+    | inr es ↦ edge_by k l x Passes at (λ b len. Contains-append_right (on_edges l.on (length b)) (verb_edges b (length b) l.verb) (edge x (length b) Passes)
         (subst (λ v. Contains (verb_edges b (length b) v) (edge x (length b) Passes)) (sym es.1) (contains_map (λ y. edge y (length b) Passes) es.0 x es.2)))
   ]) refl
 
   ignores_edge : (k : ℕ) (l : Line) (x : ℕ) (es : List ℕ) → slice_get m.lines k ≡ Some l → l.verb ≡ MergeIgnore es → Contains es x → Contains (edges g) (edge x k Ignores)
-  ignores_edge k l x es at is c = edge_by k l x Ignores at (λ b len. Contains-append_right (edges_from_some Passes l.on (length b)) (verb_edges b (length b) l.verb) (edge x (length b) Ignores)
+  ignores_edge k l x es at is c = edge_by k l x Ignores at (λ b len. Contains-append_right (on_edges l.on (length b)) (verb_edges b (length b) l.verb) (edge x (length b) Ignores)
       (subst (λ v. Contains (verb_edges b (length b) v) (edge x (length b) Ignores)) (sym is) (contains_map (λ y. edge y (length b) Ignores) es x c)))
 
   place_is_one : (i j : ℕ) → i < n → j < n → place_in m i ≡ place_in m j → i ≡ j
@@ -213,9 +202,8 @@ module _ (f : GraphValue) (commute : Bool) (flow : IsFlow f) (m : Made) (labels 
         ],
       )
 
-  waits_for : (k : ℕ) (o : Option ℕ) (P : ℕ → Type 0) (x y : ℕ) → Waits labels k o P → o ≡ Some x → Leaf labels x y → P y
-  waits_for k None P x y w h l = absurd (none-some x h)
-  waits_for k (Some z) P x y w h l = (w.1 y).1 (subst (λ u. Leaf labels u y) (sym (same_Some z x h)) l)
+  waits_for : (k : ℕ) (on : List ℕ) (P : ℕ → Type 0) (x y : ℕ) → Waits labels k on P → Contains on x → Leaf labels x y → P y
+  waits_for k on P x y w h l = (w.leaves y).1 (x, h, l)
 
   merge_same : (es ds : List ℕ) → Merge es ≡ Merge ds → es ≡ ds
   merge_same es ds h = cc
@@ -234,8 +222,12 @@ module _ (f : GraphValue) (commute : Bool) (flow : IsFlow f) (m : Made) (labels 
   differ : (t : Verb → Bool) (v w : Verb) → v ≡ w → t v ≡ true → t w ≡ false → ⊥
   differ t v w same passes fails = true≢false (sym passes ∙ (ap t same ∙ fails))
 
-  some_same : (o : Option ℕ) (x y : ℕ) → o ≡ Some x → o ≡ Some y → x ≡ y
-  some_same o x y a b = same_Some x y (sym a ∙ b)
+  -- the event of a line that waits for one, and that there is none
+  one_event : (on : List ℕ) (x y : ℕ) → Contains on x → on ≡ y ∷ [] → x ≡ y
+  one_event on x y c is = elim (contains_cases y [] x (subst (λ z. Contains z x) is c)) [ inl same ↦ sym same | inr none ↦ absurd (contains_none x none) ]
+
+  no_event : (on : List ℕ) (x : ℕ) → Contains on x → on ≡ [] → ⊥
+  no_event on x c is = contains_none x (subst (λ z. Contains z x) is c)
 
   -- a leaf of what a line that only orders follows is a leaf of it
   leaf_on : (k x y : ℕ) (l : Line) → slice_get m.lines k ≡ Some l → orders_alone l.verb ≡ true → Follows l x → Leaf labels x y → Leaf labels k y
@@ -244,7 +236,7 @@ module _ (f : GraphValue) (commute : Bool) (flow : IsFlow f) (m : Made) (labels 
     | inr (inl o) ↦ (o.leaves y).1 (
       x,
       elim named [
-        | inl (inl on) ↦ absurd (none-some x (sym o.on ∙ on))
+        | inl (inl on) ↦ absurd (no_event l.on x on o.on)
         | inl (inr es) ↦ subst (λ z. Contains z x) (merge_same es.0 o.events (sym es.1 ∙ o.verb)) es.2
         | inr es ↦ absurd (differ is_merge (Merge o.events) (MergeIgnore es.0) (sym o.verb ∙ es.1) refl refl)
       ],
@@ -257,14 +249,14 @@ module _ (f : GraphValue) (commute : Bool) (flow : IsFlow f) (m : Made) (labels 
       in_section q s (inl a) =
           let is = same_line k q l _ at a s.acquire in
           elim named [
-            | inl (inl on) ↦ subst (λ z. Leaf labels z y) (sym a) (waits_for q s.on (Leaf labels q) x y s.waits (sym (ap (λ (z : Line). z.on) is) ∙ on) leaf)
+            | inl (inl on) ↦ subst (λ z. Leaf labels z y) (sym a) (waits_for q s.on (Leaf labels q) x y s.waits (subst (λ z. Contains z x) (ap (λ (z : Line). z.on) is) on) leaf)
             | inl (inr es) ↦ absurd (differ is_merge (Merge es.0) _ (sym es.1 ∙ ap (λ (z : Line). z.verb) is) refl refl)
             | inr es ↦ absurd (differ is_ignore (MergeIgnore es.0) _ (sym es.1 ∙ ap (λ (z : Line). z.verb) is) refl refl)
           ]
       in_section q s (inr (inl b)) =
           let is = same_line k (q + 2) l _ at b s.merge in
           elim named [
-            | inl (inl on) ↦ absurd (none-some x (sym (ap (λ (z : Line). z.on) is) ∙ on))
+            | inl (inl on) ↦ absurd (no_event l.on x on (ap (λ (z : Line). z.on) is))
             | inl (inr es) ↦ absurd (differ is_merge (Merge es.0) _ (sym es.1 ∙ ap (λ (z : Line). z.verb) is) refl refl)
             | inr es ↦ (
                 let one = subst (λ z. Contains z x) (ignore_same es.0 ((q + 1) ∷ []) (sym es.1 ∙ ap (λ (z : Line). z.verb) is)) es.2 in
@@ -283,7 +275,7 @@ module _ (f : GraphValue) (commute : Bool) (flow : IsFlow f) (m : Made) (labels 
           let is = same_line k (q + 3) l _ at d s.release in
           elim named [
             | inl (inl on) ↦ (
-                let from : x ≡ q + 2 = some_same l.on x (q + 2) on (ap (λ (z : Line). z.on) is) in
+                let from : x ≡ q + 2 = one_event l.on x (q + 2) on (ap (λ (z : Line). z.on) is) in
                 subst (λ z. Contains z y) (sym (ap (λ z. slice_index_or labels z []) d ∙ s.release_label)) (subst (λ z. Contains z y) (ap (λ z. slice_index_or labels z []) from ∙ s.merge_label) leaf))
             | inl (inr es) ↦ absurd (differ is_merge (Merge es.0) _ (sym es.1 ∙ ap (λ (z : Line). z.verb) is) refl refl)
             | inr es ↦ absurd (differ is_ignore (MergeIgnore es.0) _ (sym es.1 ∙ ap (λ (z : Line). z.verb) is) refl refl)
@@ -297,7 +289,7 @@ module _ (f : GraphValue) (commute : Bool) (flow : IsFlow f) (m : Made) (labels 
       let same : own.0 ≡ named.0 = same_Some own.0 named.0 (sym own.1 ∙ (ap (slice_get m.lines) (sym (q ∙ at)) ∙ named.1)) in
       let uses_it : uses_columns named.0.verb ≡ true = ap (λ (l : Line). uses_columns l.verb) (sym same) ∙ (ap uses_columns own.2 ∙ uses j h) in
       elim named.2 [
-        | inl (inl on) ↦ waits_for (place_in m j) own.0.on (λ x. Contains (sources_of f commute j) x) e.from y own.3 (ap (λ (l : Line). l.on) same ∙ on) (subst (λ z. Leaf labels z y) (sym p) leaf)
+        | inl (inl on) ↦ waits_for (place_in m j) own.0.on (λ x. Contains (sources_of f commute j) x) e.from y own.3 (subst (λ (l : Line). Contains l.on e.from) (sym same) on) (subst (λ z. Leaf labels z y) (sym p) leaf)
         | inl (inr es) ↦ absurd (true≢false (sym uses_it ∙ ap uses_columns es.1))
         | inr es ↦ absurd (true≢false (sym uses_it ∙ ap uses_columns es.1))
       ]
@@ -321,9 +313,10 @@ module _ (f : GraphValue) (commute : Bool) (flow : IsFlow f) (m : Made) (labels 
   dies : (k q i : ℕ) → k ≡ q → slice_index_or labels q [] ≡ dead f i → Lives k → ⊥
   dies k q i is label lives = lives (subst (λ z. Contains z n) (sym (ap (λ z. slice_index_or labels z []) is ∙ label)) (contains_there i (length f.lines ∷ []) n (contains_here (length f.lines) [])))
 
-  acquire_path : (k y : ℕ) (l : Line) → slice_get m.lines k ≡ Some l → (o : Option ℕ) → l.on ≡ o → Waits labels k o (Leaf labels k) → Lives k → Leaf labels k y → ((x : ℕ) → x < k → Lives x → Leaf labels x y → UpTo y x) → UpTo y k
-  acquire_path k y l at None on w lives leaf again = absurd (w y leaf)
-  acquire_path k y l at (Some e) on w lives leaf again = inr (onward y e k (again e w.0 (λ c. lives ((w.1 n).1 c)) ((w.1 y).0 leaf)) (names_edge k l e at (inl on)))
+  acquire_path : (k y : ℕ) (l : Line) → slice_get m.lines k ≡ Some l → (on : List ℕ) → on ≡ l.on → Waits labels k on (Leaf labels k) → Lives k → Leaf labels k y → ((x : ℕ) → x < k → Lives x → Leaf labels x y → UpTo y x) → UpTo y k
+  acquire_path k y l at on is w lives leaf again =
+      let r = (w.leaves y).0 leaf in
+      inr (onward y r.0 k (again r.0 (w.below r.0 r.1) (λ c. lives ((w.leaves n).1 (r.0, r.1, c))) r.2) (names_edge k l r.0 at (inl (subst (λ z. Contains z r.0) is r.1))))
 
   leaf_path_at : (k y : ℕ) (l : Line) → slice_get m.lines k ≡ Some l → Lives k → Leaf labels k y → ((x : ℕ) → x < k → Lives x → Leaf labels x y → UpTo y x) → UpTo y k
   leaf_path_at k y l at lives leaf again = elim (st.each k l at) [
@@ -336,7 +329,7 @@ module _ (f : GraphValue) (commute : Bool) (flow : IsFlow f) (m : Made) (labels 
       | inl a ↦ (
           let s = o.2 in
           let is = same_line k o.1 l _ at a s.acquire in
-          acquire_path k y l at s.on (ap (λ (z : Line). z.on) is) (subst (λ z. Waits labels z s.on (Leaf labels z)) (sym a) s.waits) lives leaf again)
+          acquire_path k y l at s.on (sym (ap (λ (z : Line). z.on) is)) (subst (λ z. Waits labels z s.on (Leaf labels z)) (sym a) s.waits) lives leaf again)
       | inr (inl b) ↦ absurd (dies k (o.1 + 2) (o.2).line b (o.2).merge_label lives)
       | inr (inr d) ↦ absurd (dies k (o.1 + 3) (o.2).line d (o.2).release_label lives)
     ]
@@ -354,15 +347,15 @@ module _ (f : GraphValue) (commute : Bool) (flow : IsFlow f) (m : Made) (labels 
   no_source : (j : ℕ) → j < n → Contains (sources_of f commute j) n → ⊥
   no_source j h c = let d : depends f commute n j ≡ true = sources_sound f commute j n c in let b : n < j = depends_below f commute n j d in absurd (omega arith)
 
-  waits_path : (j : ℕ) → j < n → (l : Line) (o : Option ℕ) (y : ℕ) → slice_get m.lines (place_in m j) ≡ Some l → l.on ≡ o → Waits labels (place_in m j) o (λ x. Contains (sources_of f commute j) x) → Contains (sources_of f commute j) y → Path (passing_edges g) (place_in m y) (place_in m j)
-  waits_path j h l None y at on w c = absurd (w y c)
-  waits_path j h l (Some e) y at on w c =
+  waits_path : (j : ℕ) → j < n → (l : Line) (y : ℕ) → slice_get m.lines (place_in m j) ≡ Some l → Waits labels (place_in m j) l.on (λ x. Contains (sources_of f commute j) x) → Contains (sources_of f commute j) y → Path (passing_edges g) (place_in m y) (place_in m j)
+  waits_path j h l y at w c =
+      let r = (w.leaves y).0 c in
       let below : place_in m j < length m.lines = slice_get_within m.lines (place_in m j) l at in
-      let less : e < place_in m j = w.0 in
-      onward y e (place_in m j) (leaf_path (suc e) e y (omega arith) (omega arith) (λ d. no_source j h ((w.1 n).1 d)) ((w.1 y).0 c)) (names_edge (place_in m j) l e at (inl on))
+      let less : r.0 < place_in m j = w.below r.0 r.1 in
+      onward y r.0 (place_in m j) (leaf_path (suc r.0) r.0 y (omega arith) (omega arith) (λ d. no_source j h ((w.leaves n).1 (r.0, r.1, d))) r.2) (names_edge (place_in m j) l r.0 at (inl r.1))
 
   source_path : (j : ℕ) → j < n → (y : ℕ) → Contains (sources_of f commute j) y → Path (passing_edges g) (place_in m y) (place_in m j)
-  source_path j h y c = let o = own_line j h in waits_path j h o.0 o.0.on y o.1 refl o.3 c
+  source_path j h y c = let o = own_line j h in waits_path j h o.0 y o.1 o.3 c
 
   sources_stand : SourcesStand f commute g (place_in m)
   sources_stand = record {
@@ -419,18 +412,18 @@ module _ (f : GraphValue) (commute : Bool) (flow : IsFlow f) (m : Made) (labels 
     sum = ap (option_map (λ (l : Line). l.verb)) s.sum;
     uses = uses s.line s.below;
     merge = ap (option_map (λ (l : Line). l.verb)) s.merge;
-    last = new_line (m.first + (q + 3)) (Release q) (Some (q + 2));
+    last = new_line (m.first + (q + 3)) (Release q) ((q + 2) ∷ []);
     release = s.release;
     releases = refl;
     on = refl;
-    to_sum = on_edge (q + 1) _ q s.sum refl;
+    to_sum = on_edge (q + 1) _ q s.sum (contains_here q []);
     to_merge = ignores_edge (q + 2) _ (q + 1) ((q + 1) ∷ []) s.merge refl (contains_here (q + 1) []);
-    to_release = on_edge (q + 3) _ (q + 2) s.release refl;
+    to_release = on_edge (q + 3) _ (q + 2) s.release (contains_here (q + 2) []);
     into_sum = λ e c to. (
         let named = edge_names e c in
         let is = same_line e.to (q + 1) named.0 _ named.1 to s.sum in
         elim named.2 [
-          | inl (inl on) ↦ some_same named.0.on e.from q on (ap (λ (z : Line). z.on) is)
+          | inl (inl on) ↦ one_event named.0.on e.from q on (ap (λ (z : Line). z.on) is)
           | inl (inr es) ↦ absurd (true≢false (sym (uses s.line s.below) ∙ ap uses_columns (sym (ap (λ (z : Line). z.verb) is) ∙ es.1)))
           | inr es ↦ absurd (true≢false (sym (uses s.line s.below) ∙ ap uses_columns (sym (ap (λ (z : Line). z.verb) is) ∙ es.1)))
         ]);
@@ -438,7 +431,7 @@ module _ (f : GraphValue) (commute : Bool) (flow : IsFlow f) (m : Made) (labels 
         let named = edge_names e c in
         let is = same_line e.to (q + 2) named.0 _ named.1 to s.merge in
         elim named.2 [
-          | inl (inl on) ↦ absurd (none-some e.from (sym (ap (λ (z : Line). z.on) is) ∙ on))
+          | inl (inl on) ↦ absurd (no_event named.0.on e.from on (ap (λ (z : Line). z.on) is))
           | inl (inr es) ↦ absurd (differ is_merge (Merge es.0) _ (sym es.1 ∙ ap (λ (z : Line). z.verb) is) refl refl)
           | inr es ↦ (
               let one = subst (λ z. Contains z e.from) (ignore_same es.0 ((q + 1) ∷ []) (sym es.1 ∙ ap (λ (z : Line). z.verb) is)) es.2 in
@@ -448,7 +441,7 @@ module _ (f : GraphValue) (commute : Bool) (flow : IsFlow f) (m : Made) (labels 
         let named = edge_names e c in
         let is = same_line e.to (q + 3) named.0 _ named.1 to s.release in
         elim named.2 [
-          | inl (inl on) ↦ some_same named.0.on e.from (q + 2) on (ap (λ (z : Line). z.on) is)
+          | inl (inl on) ↦ one_event named.0.on e.from (q + 2) on (ap (λ (z : Line). z.on) is)
           | inl (inr es) ↦ absurd (differ is_merge (Merge es.0) _ (sym es.1 ∙ ap (λ (z : Line). z.verb) is) refl refl)
           | inr es ↦ absurd (differ is_ignore (MergeIgnore es.0) _ (sym es.1 ∙ ap (λ (z : Line). z.verb) is) refl refl)
         ]);

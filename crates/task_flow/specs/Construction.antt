@@ -1,5 +1,5 @@
 -- The graph that is written for a flow.
-use Rattle.std.specs.Prelude.{◌≡◌, ℕ, zero, suc, ◌+◌, ◌-◌, ◌^◌, ◌<◌, ◌==◌, Bool, true, false, cond, not, ◌&&◌, ◌||◌, nat_lt, List, [], ◌∷◌, ◌++◌, length, map, take, drop, slice_index_or, Option, Some, None, is_none, option_map, find, codes, decimal, bytes_eq}
+use Rattle.std.specs.Prelude.{◌≡◌, ℕ, zero, suc, ◌+◌, ◌-◌, ◌^◌, ◌<◌, ◌==◌, Bool, true, false, cond, not, ◌&&◌, ◌||◌, nat_lt, List, [], ◌∷◌, ◌++◌, length, map, take, drop, slice_index_or, Option, Some, None, is_none, option_map, option_to_list, find, codes, decimal, bytes_eq}
 use Rattle.std.specs.Char.{is_ascii_digit}
 use Rattle.std.specs.Option.{option_map_or}
 use Rattle.std.specs.List.{list_any, list_all, range_with_len}
@@ -80,7 +80,7 @@ abbrev pub new_name : ℕ → List ℕ
 new_name n = codes "m" ++ decimal n
 
 abbrev pub merge_line : ℕ → List ℕ → Line
-merge_line n es = record { name = new_name n; «verb» = Merge es; «on» = None }
+merge_line n es = record { name = new_name n; «verb» = Merge es; «on» = [] }
 
 abbrev pub with_merge : List ℕ → Made → Made
 with_merge es m = record { lines = m.lines ++ merge_line (m.first + length m.lines) es ∷ []; places = m.places; merges = m.merges ++ (es, length m.lines) ∷ []; first = m.first }
@@ -108,27 +108,27 @@ abbrev pub events_for : List ℕ → List (List ℕ) → Made → Made × List �
 events_for es [] m = (m, es)
 events_for es (p ∷ ps) m = (let r = event_for (length p) (map (place_in m) p) m in events_for (option_map_or (with_event es) r.1 es) ps r.0)
 
--- what a line waits for
-abbrev pub wait_for : Parts → Made → Made × Option ℕ
-wait_for p m = (let r = events_for (map (place_in m) p.small) p.large m in event_for (length r.1) r.1 r.0)
+-- what a line waits for: one event at most
+abbrev pub wait_for : Parts → Made → Made × List ℕ
+wait_for p m = (let r = events_for (map (place_in m) p.small) p.large m in let e = event_for (length r.1) r.1 r.0 in (e.0, option_to_list e.1))
 
-abbrev pub with_flow_line : Line → Made × Option ℕ → Made
+abbrev pub with_flow_line : Line → Made × List ℕ → Made
 with_flow_line l r = record { lines = r.0.lines ++ record { name = l.name; verb = l.verb; «on» = r.1 } ∷ []; places = r.0.places ++ length r.0.lines ∷ []; merges = r.0.merges; first = r.0.first }
 
 -- a line more that is none of the flow
-abbrev pub with_new : Verb → Option ℕ → Made → Made
+abbrev pub with_new : Verb → List ℕ → Made → Made
 with_new v on m = record { lines = m.lines ++ record { name = new_name (m.first + length m.lines); «verb» = v; «on» = on } ∷ []; places = m.places; merges = m.merges; first = m.first }
 
 -- a line of the flow in a section of its own: before it an acquire, which waits for what the line waits for; behind it a merge that ignores its fault, and the release
-abbrev pub in_section : ℕ → Line → Made × Option ℕ → Made
-in_section lock l r = (let q = length r.0.lines in with_new (Release q) (Some (q + 2)) (with_new (MergeIgnore ((q + 1) ∷ [])) None (with_flow_line l (with_new (Acquire lock false) r.1 r.0, Some q))))
+abbrev pub in_section : ℕ → Line → Made × List ℕ → Made
+in_section lock l r = (let q = length r.0.lines in with_new (Release q) ((q + 2) ∷ []) (with_new (MergeIgnore ((q + 1) ∷ [])) [] (with_flow_line l (with_new (Acquire lock false) r.1 r.0, q ∷ []))))
 
-abbrev pub with_line_by : Option ℕ → Line → Made × Option ℕ → Made
+abbrev pub with_line_by : Option ℕ → Line → Made × List ℕ → Made
 with_line_by (Some lock) l r = in_section lock l r
 with_line_by None l r = with_flow_line l r
 
 abbrev pub no_line : Line
-no_line = record { name = []; verb = User; «on» = None }
+no_line = record { name = []; verb = User; «on» = [] }
 
 abbrev pub line_in : GraphValue → ℕ → Line
 line_in f j = slice_index_or f.lines j no_line

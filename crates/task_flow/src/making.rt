@@ -1,6 +1,6 @@
 //! What stands while the graph of a flow is made.
 
-ghost use Rattle.std.specs.Prelude.{◌≡◌, ℕ, ◌+◌, ◌≤◌, ◌<◌, [], length, take, drop, map, not, ◌&&◌, nat_lt, false, true, IsTrue, IfOk, OnOk};
+ghost use Rattle.std.specs.Prelude.{◌≡◌, ℕ, ◌+◌, ◌≤◌, ◌<◌, [], length, take, drop, map, not, ◌&&◌, nat_lt, false, true, option_to_list, IsTrue, IfOk, OnOk};
 ghost use Rattle.graph_terms.specs.Fits.{is_beyond};
 ghost use Rattle.flow_order.specs.Flow.{IsFlow, uses_columns};
 ghost use Rattle.flow_order.specs.Rows.{IsKept};
@@ -17,7 +17,7 @@ use flow_order::rows::Rows;
 use flow_order::sources::{Parts, add_row, has, parts_of};
 use graph_model::graph::Graph;
 use graph_terms::limits::{MAX_EVENTS, MAX_LINES};
-use graph_terms::lists::LineList;
+use graph_terms::lists::{EventList, LineList};
 use graph_terms::verb::{Line, Verb};
 use index_spaces::NoMemory;
 use index_spaces::room::push;
@@ -108,7 +108,7 @@ impl Making {
         let name = new_name(alloc, self.first, line)?;
         self.merges.add(alloc, &events, line)?;
         let verb = Verb::Merge { events };
-        let on = None;
+        let on = EventList::new(alloc);
         push(&mut self.row, Line { name, verb, on })?;
         Ok(line)
     }
@@ -167,20 +167,21 @@ impl Making {
         Ok(places)
     }
 
-    /// What a line of the flow with these sources waits for.
-    fn wait_for(&mut self, alloc: Global, parts: &Parts) -> Result<Option<u32>, Stop>
-        ensures ok { IfOk result (λ e. (made_of self.new, e) ≡ wait_for parts.now (made_of self.old)) }
+    /// What a line of the flow with these sources waits for: one event at most.
+    fn wait_for(&mut self, alloc: Global, parts: &Parts) -> Result<EventList, Stop>
+        ensures ok { IfOk result (λ on. (made_of self.new, on) ≡ wait_for parts.now (made_of self.old)) }
         ensures graph { self.new.graph ≡ self.old.graph }
         ensures named { self.new.named ≡ self.old.named }
         ensures limit { result ≡ Err Stop.Limit → IsPast (wait_for parts.now (made_of self.old)).0 }
     {
         let small = self.places_of(alloc, &parts.small)?;
         let events = self.events_for(alloc, small, parts.large.as_slice())?;
-        self.event_for(alloc, events)
+        let event = self.event_for(alloc, events)?;
+        Ok(event_list(alloc, event)?)
     }
 
     /// Makes a line that is none of the flow, and gives its number.
-    fn push_new(&mut self, alloc: Global, verb: Verb, on: Option<u32>) -> Result<u32, Stop>
+    fn push_new(&mut self, alloc: Global, verb: Verb, on: EventList) -> Result<u32, Stop>
         ensures ok { OnOk result (made_of self.new ≡ with_new verb on (made_of self.old)) }
         ensures line { IfOk result (λ n. n ≡ length (made_of self.old).lines) }
         ensures few { OnOk result (length (made_of self.new).lines ≤ MAX_LINES) }
@@ -195,7 +196,7 @@ impl Making {
     }
 
     /// Makes a line of the flow, and gives its number.
-    fn push_flow_line(&mut self, line: &Line, on: Option<u32>) -> Result<u32, Stop>
+    fn push_flow_line(&mut self, line: &Line, on: EventList) -> Result<u32, Stop>
         requires { IsTrue (uses_columns line.now.verb) }
         ensures ok { OnOk result (made_of self.new ≡ with_flow_line line.now (made_of self.old, on)) }
         ensures line { IfOk result (λ n. n ≡ length (made_of self.old).lines) }
@@ -218,7 +219,7 @@ impl Making {
         alloc: Global,
         lock: u32,
         line: &Line,
-        on: Option<u32>,
+        on: EventList,
     ) -> Result<u32, Stop>
         requires { IsTrue (uses_columns line.now.verb) }
         ensures ok { OnOk result (made_of self.new ≡ in_section lock line.now (made_of self.old, on)) }
@@ -229,11 +230,13 @@ impl Making {
     {
         let shared = false;
         let acquire = self.push_new(alloc, Verb::Acquire { lock, shared }, on)?;
-        let sum = self.push_flow_line(line, Some(acquire))?;
+        let sum = self.push_flow_line(line, event_list(alloc, Some(acquire))?)?;
         let mut events = LineList::new(alloc);
         events.push(sum)?;
-        let merge = self.push_new(alloc, Verb::MergeIgnore { events }, None)?;
-        self.push_new(alloc, Verb::Release { acquire }, Some(merge))
+        let none = EventList::new(alloc);
+        let merge = self.push_new(alloc, Verb::MergeIgnore { events }, none)?;
+        let on = event_list(alloc, Some(merge))?;
+        self.push_new(alloc, Verb::Release { acquire }, on)
     }
 
     /// Makes a line of the flow with these sources, and the merges before it; in a section of a
@@ -308,6 +311,17 @@ impl Making {
         add_row(alloc, flow, sections.commute, rows, &parts)?;
         Ok(())
     }
+}
+
+/// The event, where there is one.
+fn event_list(alloc: Global, event: Option<u32>) -> Result<EventList, NoMemory>
+    ensures { IfOk result (λ on. on ≡ option_to_list event) }
+{
+    let mut on = EventList::new(alloc);
+    if let Some(event) = event {
+        on.push(event)?;
+    }
+    Ok(on)
 }
 
 /// The first of some events, at most as many as a merge names.

@@ -1,5 +1,5 @@
 -- What is told of a word that is refused.
-use Rattle.std.specs.Prelude.{ℕ, ◌+◌, ◌==◌, Bool, true, false, cond, not, ◌&&◌, ◌||◌, List, [], ◌∷◌, ◌++◌, length, take, flat_map, codes, decimal, Option, Some, None}
+use Rattle.std.specs.Prelude.{ℕ, ◌+◌, ◌==◌, Bool, true, false, cond, not, ◌&&◌, ◌||◌, List, [], ◌++◌, length, take, flat_map, codes, decimal, Option, Some, None}
 use Rattle.std.specs.List.{list_all, slice_index_or}
 use Rattle.std.specs.Str.{bytes_eq}
 use Rattle.graph_terms.specs.declared.format.Format.{Format}
@@ -14,7 +14,7 @@ use Rattle.line_forms.specs.declared.form.TheConstants.{FORMS}
 use Rattle.word_forms.specs.declared.slot.Slot.{Slot}
 use Rattle.word_forms.specs.declared.slot.Slot.TheVariants as slots
 use Rattle.line_forms.specs.Blanks.{has_tab, ends_with_return, blank_text}
-use Rattle.line_forms.specs.Forms.{takes_on, takes_many, followed, is_told}
+use Rattle.line_forms.specs.Forms.{form_words, takes_on, takes_many, takes_several, followed, is_told}
 use Rattle.line_forms.specs.Hint.{merge_lines}
 use Rattle.word_forms.specs.Order.{intervals_text}
 use Rattle.word_forms.specs.Slots.{slot_at, slot_word, note_of}
@@ -31,8 +31,8 @@ abbrev pub noted_text : Slot → ℕ → List ℕ → List ℕ
 noted_text slot before note = cond (length note == 0) [] (note_line slot (before + 1) note)
 
 -- what kind of word stands at number k of the form, from 0, and how it is spelled
-abbrev pub note_text : Why → Form → List (List ℕ) → ℕ → List ℕ
-note_text reason f ws k = noted_text (slot_at f k) (length (take k ws)) (note_of reason (slot_at f k))
+abbrev pub note_text : Format → Why → Form → List (List ℕ) → ℕ → List ℕ
+note_text format reason f ws k = noted_text (slot_at format f k) (length (take k ws)) (note_of reason (slot_at format f k))
 
 -- how names are spelled
 abbrev pub name_rule : Format → List ℕ
@@ -50,21 +50,21 @@ separator slots.Fields = 44
 separator _ = 32
 
 abbrev pub later_text : Format → Form → List (List ℕ) → ℕ → List ℕ
-later_text format f ws k = cond (is_later format (pieces (separator (slot_at f k)) (slice_index_or ws k []))) (codes "format 3 has such names\n") []
+later_text format f ws k = cond (is_later format (pieces (separator (slot_at format f k)) (slice_index_or ws k []))) (codes "format 3 has such names\n") []
 
 abbrev pub is_event : Slot → Bool
 is_event slots.Event = true
 is_event _ = false
 
--- what to write for events behind these words, with commas between them: the two lines with a merge, and in a merge a space for a comma
-abbrev pub events_text : Form → List (List ℕ) → List (List ℕ) → List ℕ
-events_text f ws events = cond (takes_on f) (merge_lines f ws events) (codes "one space stands between two events\n")
+-- what to write for events behind these words, with commas between them: the two lines with a merge, and where several may stand a space for a comma
+abbrev pub events_text : Format → Form → List (List ℕ) → List (List ℕ) → List ℕ
+events_text format f ws events = cond (takes_on f && not (takes_several format f)) (merge_lines f ws events) (codes "one space stands between two events\n")
 
 abbrev pub comma_text : Format → Form → List (List ℕ) → ℕ → List ℕ
-comma_text format f ws k = cond (is_event (slot_at f k) && list_all (is_name_in format) (pieces 44 (slice_index_or ws k []))) (events_text f (take k ws) (pieces 44 (slice_index_or ws k []))) []
+comma_text format f ws k = cond (is_event (slot_at format f k) && list_all (is_name_in format) (pieces 44 (slice_index_or ws k []))) (events_text format f (take k ws) (pieces 44 (slice_index_or ws k []))) []
 
 abbrev pub misnamed_text : Format → Form → List (List ℕ) → ℕ → List ℕ
-misnamed_text format f ws k = note_text why.Name f ws k ++ (name_rule format ++ (later_text format f ws k ++ comma_text format f ws k))
+misnamed_text format f ws k = note_text format why.Name f ws k ++ (name_rule format ++ (later_text format f ws k ++ comma_text format f ws k))
 
 -- `on` among the events of a merge
 abbrev pub merge_on_text : Form → List ℕ → List ℕ
@@ -73,15 +73,19 @@ merge_on_text f w = cond (takes_many f && bytes_eq w (codes "on")) (codes "a mer
 -- what is told of word k of a line of the form
 abbrev pub mark_text : Format → Why → Form → List (List ℕ) → ℕ → List ℕ
 mark_text format why.Name f ws k = misnamed_text format f ws k
-mark_text format why.Number f ws k = note_text why.Number f ws k
-mark_text format why.Kind f ws k = note_text why.Kind f ws k
+mark_text format why.Number f ws k = note_text format why.Number f ws k
+mark_text format why.Kind f ws k = note_text format why.Kind f ws k
 mark_text format why.Unknown f ws k = merge_on_text f (slice_index_or ws k [])
 mark_text format why.Space f ws k = intervals_text (slice_index_or ws k [])
 mark_text format _ f ws k = []
 
+-- a line that follows a form to its end may have more events behind it
+abbrev pub may_go_on : Format → Form → ℕ → Bool
+may_go_on format f n = takes_many f || (takes_several format f && n == form_words f)
+
 -- a line of so many words has the form, of which it follows n
 abbrev pub is_marked : Format → Form → ℕ → ℕ → Bool
-is_marked format f n count = is_told format f n && (takes_many f || (n == count))
+is_marked format f n count = is_told format f n && (may_go_on format f n || n == count)
 
 abbrev pub form_mark : Format → Why → List (List ℕ) → ℕ → Form → List ℕ
 form_mark format reason ws k f = cond (is_marked format f (followed f ws) (length ws)) (mark_text format reason f ws k) []

@@ -1,14 +1,15 @@
 -- What kind of word stands in each place of a form, and how words of that kind are spelled.
-use Rattle.std.specs.Prelude.{ℕ, ◌&&◌, nat_lt, cond, List, [], codes}
+use Rattle.std.specs.Prelude.{ℕ, Bool, ◌&&◌, ◌||◌, nat_lt, nat_le, cond, List, [], codes}
 use Rattle.std.specs.List.{slice_index_or}
 use Rattle.std.specs.Str.{bytes_eq}
+use Rattle.graph_terms.specs.declared.format.Format.{Format}
 use Rattle.graph_terms.specs.declared.why.Why.{Why}
 use Rattle.graph_terms.specs.declared.why.Why.TheVariants as why
 use Rattle.graph_words.specs.Words.{pieces}
 use Rattle.line_forms.specs.declared.form.Form.{Form}
 use Rattle.word_forms.specs.declared.slot.Slot.{Slot}
 use Rattle.word_forms.specs.declared.slot.Slot.TheVariants as slots
-use Rattle.line_forms.specs.Forms.{form_text, takes_many}
+use Rattle.line_forms.specs.Forms.{form_text, form_words, takes_many, takes_several}
 
 -- of a word of a form that stands for a name, or for itself
 abbrev pub name_slot : List ℕ → Slot
@@ -32,9 +33,13 @@ slot_of item =
     (cond (bytes_eq item (codes "VALUE")) slots.Value
     (cond (bytes_eq item (codes "WEIGHT")) slots.Weight (name_slot item))))))
 
--- that of word k of a form, from 0: behind its verb a merge has events alone
-abbrev pub slot_at : Form → ℕ → Slot
-slot_at f k = cond (takes_many f && nat_lt 2 k) slots.Event (slot_of (slice_index_or (pieces 32 (form_text f)) k []))
+-- events alone stand from word k of a form on, from 0: behind the verb of a merge, and behind a first event of which the format takes several
+abbrev pub has_events : Format → Form → ℕ → Bool
+has_events format f k = (takes_many f && nat_lt 2 k) || (takes_several format f && nat_le (form_words f) k)
+
+-- what kind of word stands at number k of a form, from 0
+abbrev pub slot_at : Format → Form → ℕ → Slot
+slot_at format f k = cond (has_events format f k) slots.Event (slot_of (slice_index_or (pieces 32 (form_text f)) k []))
 
 abbrev pub slot_word : Slot → List ℕ
 slot_word slots.Name = codes "NAME"

@@ -5,8 +5,9 @@ ghost use Rattle.basics.specs.Words.{contents};
 ghost use Rattle.std.specs.List.{list_all};
 ghost use Rattle.graph_terms.specs.Name.{is_name_in};
 ghost use Rattle.graph_words.specs.Words.{pieces};
-ghost use Rattle.word_forms.specs.Slots.{slot_at};
-ghost use Rattle.word_forms.specs.Marked.{slot_text, note_line, noted_text, note_text, name_rule, is_later, separator, later_text, is_event, events_text, comma_text, misnamed_text, merge_on_text, mark_text, is_marked, form_mark, form_marks, marked_text, word_advice};
+ghost use Rattle.word_forms.specs.Slots.{has_events, slot_at};
+ghost use Rattle.line_forms.specs.Forms.{form_words};
+ghost use Rattle.word_forms.specs.Marked.{slot_text, note_line, noted_text, note_text, name_rule, is_later, separator, later_text, is_event, events_text, comma_text, misnamed_text, merge_on_text, mark_text, may_go_on, is_marked, form_mark, form_marks, marked_text, word_advice};
 
 use crate::order::put_intervals;
 use crate::slot::{Slot, note_of, slot_of, slot_word};
@@ -108,18 +109,27 @@ fn put_form_mark(
 ) -> Result<(), NoMemory>
     ensures { OnOk result (out.new.items ≡ out.old.items ++ form_mark format why (contents words.now) k form) }
 {
-    let (n, _all) = followed(alloc, form, words)?;
-    if !is_marked(format, form, n, words.len()) {
+    let (n, all) = followed(alloc, form, words)?;
+    if !is_marked(format, form, n, all, words.len()) {
         return Ok(());
     }
     put_mark(alloc, out, format, why, words, k, form)
 }
 
-/// Whether a line of so many words has the form, of which it follows `n`.
-fn is_marked(format: Format, form: Form, n: usize, count: usize) -> bool
+/// Whether a line of `count` words has the form of `all` words, of which it follows `n`.
+fn is_marked(format: Format, form: Form, n: usize, all: usize, count: usize) -> bool
+    requires { all ≡ form_words form }
     ensures { result ≡ is_marked format form n count }
 {
-    is_told(format, form, n) && (form.takes_many() || n == count)
+    is_told(format, form, n) && (may_go_on(format, form, n, all) || n == count)
+}
+
+/// Whether a line that follows a form of `all` words to its end may have more events behind it.
+fn may_go_on(format: Format, form: Form, n: usize, all: usize) -> bool
+    requires { all ≡ form_words form }
+    ensures { result ≡ may_go_on format form n }
+{
+    form.takes_many() || (form.takes_several(format) && n == all)
 }
 
 /// Puts what is told of the word of number `k` of a line of the form.
@@ -136,8 +146,8 @@ fn put_mark(
 {
     match why {
         Why::Name => put_misnamed(alloc, out, format, form, words, k),
-        Why::Number => put_note(alloc, out, Why::Number, form, words, k),
-        Why::Kind => put_note(alloc, out, Why::Kind, form, words, k),
+        Why::Number => put_note(alloc, out, format, Why::Number, form, words, k),
+        Why::Kind => put_note(alloc, out, format, Why::Kind, form, words, k),
         Why::Unknown => put_merge_on(out, form, word(words, k)),
         Why::Space => put_intervals(alloc, out, word(words, k)),
         _ => Ok(()),
@@ -145,28 +155,37 @@ fn put_mark(
 }
 
 /// What kind of word stands at number `k` of the form.
-fn slot_at(alloc: Global, form: Form, k: usize) -> Result<Slot, NoMemory>
-    ensures { IfOk result (λ s. s ≡ slot_at form k) }
+fn slot_at(alloc: Global, format: Format, form: Form, k: usize) -> Result<Slot, NoMemory>
+    ensures { IfOk result (λ s. s ≡ slot_at format form k) }
 {
-    if form.takes_many() && k > 2 {
+    let items = split(alloc, form.text(), b' ')?;
+    if has_events(format, form, items.len(), k) {
         return Ok(Slot::Event);
     }
-    let items = split(alloc, form.text(), b' ')?;
     Ok(slot_of(word(items.as_slice(), k)))
+}
+
+/// Whether events alone stand from word `k` of a form of `all` words on.
+fn has_events(format: Format, form: Form, all: usize, k: usize) -> bool
+    requires { all ≡ form_words form }
+    ensures { result ≡ has_events format form k }
+{
+    (form.takes_many() && k > 2) || (form.takes_several(format) && k >= all)
 }
 
 /// Puts what kind of word stands at number `k` of the form, and how it is spelled.
 fn put_note(
     alloc: Global,
     out: &mut Vec<u8>,
+    format: Format,
     why: Why,
     form: Form,
     words: &[&[u8]],
     k: usize,
 ) -> Result<(), NoMemory>
-    ensures { OnOk result (out.new.items ≡ out.old.items ++ note_text why form (contents words.now) k) }
+    ensures { OnOk result (out.new.items ≡ out.old.items ++ note_text format why form (contents words.now) k) }
 {
-    let slot = slot_at(alloc, form, k)?;
+    let slot = slot_at(alloc, format, form, k)?;
     put_noted(out, slot, front(words, k).len(), note_of(why, slot))
 }
 
@@ -212,7 +231,7 @@ fn put_misnamed(
 ) -> Result<(), NoMemory>
     ensures { OnOk result (out.new.items ≡ out.old.items ++ misnamed_text format form (contents words.now) k) }
 {
-    put_note(alloc, out, Why::Name, form, words, k)?;
+    put_note(alloc, out, format, Why::Name, form, words, k)?;
     put_rule(out, format)?;
     put_later(alloc, out, format, form, words, k)?;
     put_commas(alloc, out, format, form, words, k)
@@ -246,7 +265,7 @@ fn put_later(
 ) -> Result<(), NoMemory>
     ensures { OnOk result (out.new.items ≡ out.old.items ++ later_text format form (contents words.now) k) }
 {
-    let slot = slot_at(alloc, form, k)?;
+    let slot = slot_at(alloc, format, form, k)?;
     let later = is_later(alloc, format, word(words, k), separator(slot))?;
     if later {
         return put(out, b"format 3 has such names\n");
@@ -286,11 +305,11 @@ fn put_commas(
 ) -> Result<(), NoMemory>
     ensures { OnOk result (out.new.items ≡ out.old.items ++ comma_text format form (contents words.now) k) }
 {
-    let slot = slot_at(alloc, form, k)?;
+    let slot = slot_at(alloc, format, form, k)?;
     let events = split(alloc, word(words, k), b',')?;
     let named = are_names(alloc, format, events.as_slice())?;
     if is_event(slot) && named {
-        return put_events(out, form, front(words, k), events.as_slice());
+        return put_events(out, format, form, front(words, k), events.as_slice());
     }
     Ok(())
 }
@@ -312,13 +331,14 @@ fn are_names(alloc: Global, format: Format, words: &[&[u8]]) -> Result<bool, NoM
 /// Puts what to write for events that stand with commas between them behind these words.
 fn put_events(
     out: &mut Vec<u8>,
+    format: Format,
     form: Form,
     words: &[&[u8]],
     events: &[&[u8]],
 ) -> Result<(), NoMemory>
-    ensures { OnOk result (out.new.items ≡ out.old.items ++ events_text form (contents words.now) (contents events.now)) }
+    ensures { OnOk result (out.new.items ≡ out.old.items ++ events_text format form (contents words.now) (contents events.now)) }
 {
-    if form.takes_on() {
+    if form.takes_on() && !form.takes_several(format) {
         return put_merge_lines(out, form, words, events);
     }
     put(out, b"one space stands between two events\n")

@@ -1,6 +1,6 @@
 -- Effects that are none of our verbs': bodies that overwrite, accumulate and fault keep to the accesses of a graph, and are evaluated from first cells that are not 0.
 use Rattle.std.proofs.Common.{◌≡◌, ℕ, zero, suc, ◌+◌, ◌*◌, Bool, true, not, cond, List, [], ◌∷◌, map, refl, sym, ◌∙◌, ap, arith}
-use Rattle.std.specs.Prelude.{◌==◌, Contains, nat_lt, Some, None, codes}
+use Rattle.std.specs.Prelude.{◌==◌, Contains, nat_lt, codes}
 use Rattle.std.proofs.lemmas.Bool.{true≢false, eq-eqb, not-true}
 use Rattle.index_spaces.specs.Column.{ColumnValue}
 use Rattle.index_spaces.specs.Space.{points}
@@ -28,8 +28,8 @@ use Rattle.graph_terms.proofs.examples.Graphs.{line, graph}
 -- columns x, y, z and w of two points. Line 0 writes w; line 1 writes x; line 2, after it, reads x and writes y; line 3, after that, reads y and writes z; line 4, after that, writes z.
 abbrev five_lines : GraphValue
 five_lines = graph (Space (codes "s") ((0, 1) ∷ []) ∷ Inst (codes "a") 0 (codes "x" ∷ codes "y" ∷ codes "z" ∷ codes "w" ∷ []) ∷ [])
-    (line (codes "o") (Fill 3 0 0) None ∷ line (codes "p") (Fill 0 0 0) None ∷ line (codes "q") (Copy 0 1 0) (Some 1)
-    ∷ line (codes "r") (Copy 1 2 0) (Some 2) ∷ line (codes "t") (Fill 2 0 0) (Some 3) ∷ [])
+    (line (codes "o") (Fill 3 0 0) [] ∷ line (codes "p") (Fill 0 0 0) [] ∷ line (codes "q") (Copy 0 1 0) (1 ∷ [])
+    ∷ line (codes "r") (Copy 1 2 0) (2 ∷ []) ∷ line (codes "t") (Fill 2 0 0) (3 ∷ []) ∷ [])
 
 abbrev two_points : List ℕ
 two_points = points (space_at five_lines 0)

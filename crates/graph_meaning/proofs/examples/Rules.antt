@@ -1,16 +1,18 @@
 -- What the rules say of small graphs, and their needs.
-use Rattle.std.proofs.Common.{◌≡◌, ℕ, zero, suc, ◌<◌, true, false, inl, inr, [], refl, sym, ◌∙◌, ap, arith}
-use Rattle.std.specs.Prelude.{Some, codes}
+use Rattle.std.proofs.Common.{◌≡◌, ℕ, zero, suc, ◌<◌, true, false, inl, inr, [], ◌∷◌, refl, sym, ◌∙◌, ap, arith}
+use Rattle.std.specs.Prelude.{codes}
 use Rattle.std.specs.Option.{option_map_or}
 use Rattle.std.proofs.lemmas.Bool.{true≢false, and_from}
-use Rattle.std.proofs.lemmas.Option.{same_Some}
 use Rattle.graph_terms.specs.declared.verb.Mode.TheVariants.{Write, Sum}
-use Rattle.graph_terms.specs.declared.verb.Verb.TheVariants.{Release}
-use Rattle.graph_terms.specs.Graph.{line_passes, is_acquire, is_acquire_of, is_shared, is_merge_ignore}
+use Rattle.graph_terms.specs.declared.format.Format.TheVariants.{Three}
+use Rattle.graph_terms.specs.declared.decl.Decl.TheVariants.{Lock}
+use Rattle.graph_terms.specs.declared.verb.Verb.{Verb}
+use Rattle.graph_terms.specs.declared.verb.Verb.TheVariants.{Merge, MergeIgnore, Acquire, Release}
+use Rattle.graph_terms.specs.Graph.{GraphValue, line_passes, is_acquire, is_acquire_of, is_shared}
 use Rattle.graph_terms.specs.Edges.{edges}
 use Rattle.graph_terms.specs.Access.{access, AccessesConflict}
 use Rattle.graph_terms.specs.Reservations.{Acquires, Releases}
-use Rattle.graph_meaning.specs.Rules.{Section, SectionAt, DescendsAt, ReleaseFaultAt, RaceAt, IsCycle, IsUnreleased, IsOutsideSection, IsNotDescending, IsReleaseFault, IsRace}
+use Rattle.graph_meaning.specs.Rules.{Section, SectionAt, DescendsAt, ReleaseFaultAt, RaceAt, IsCycle, IsUnreleased, IsOutsideSection, IsNotDescending, IsReleaseFault, IsRace, Accepted}
 use Rattle.graph_meaning.specs.Need.{IsNeed}
 use Rattle.graph_terms.proofs.examples.Graphs.{graph, line, racing_fills, ordered_fills, reserved_sums, shared_sums, one_section, climbing_sections, plain_release, open_section, no_release, nine_fills, two_sections, cycle}
 use Rattle.graph_meaning.proofs.PathTable.{path_by_table, no_path_by_table, acyclic_by_table}
@@ -18,7 +20,7 @@ use Rattle.graph_meaning.proofs.NeedTable.{need_is}
 use Rattle.graph_terms.proofs.Public.{acquire_is, passes_below}
 use Rattle.basics.specs.Lists.{numbers_below}
 use Rattle.basics.proofs.ListFacts.{passes_each, contains_below}
-use Rattle.graph_meaning.proofs.RulesTable.{implies, implied, section_test, descends_test, release_fault_test, section_holds, descends_holds, release_fault_holds, acyclic_by_tests, released_by_tests, sections_by_tests, descends_by_tests, fails_first, fails_first_twice, race_is, meets_itself, conflict_by}
+use Rattle.graph_meaning.proofs.RulesTable.{implies, implied, section_test, descends_test, release_fault_test, section_holds, descends_holds, release_fault_holds, accepted_by_computing, acyclic_by_tests, released_by_tests, sections_by_tests, descends_by_tests, fails_first, fails_first_twice, race_is, meets_itself, conflict_by}
 
 cycle-refused : IsCycle cycle 0
 cycle-refused = record {
@@ -95,10 +97,7 @@ climbing_sections-is_not_descending = (
 )
 
 plain_release-refused : ReleaseFaultAt plain_release 2 → ⊥
-plain_release-refused rule =
-    let r = rule 0 (line (codes "r") (Release 0) (Some 1)) refl refl in
-    let m : 1 ≡ r.0 = same_Some 1 r.0 r.1 in
-    true≢false (sym (ap (λ x. line_passes is_merge_ignore plain_release x) m ∙ r.2))
+plain_release-refused rule = true≢false (sym (rule 0 (line (codes "r") (Release 0) (1 ∷ [])) refl refl))
 
 plain_release-is_release_fault : IsReleaseFault plain_release 2
 plain_release-is_release_fault = (
@@ -108,6 +107,20 @@ plain_release-is_release_fault = (
   descends_by_tests plain_release refl refl,
   fails_first (ReleaseFaultAt plain_release) (release_fault_test plain_release) 3 (release_fault_holds plain_release refl) 2 plain_release-refused refl,
 )
+
+-- a release on two events is refused where one of them is no merge that ignores faults, and is accepted where both are
+abbrev wide_release : Verb → GraphValue
+wide_release last = record {
+  format = Three;
+  decls = Lock (codes "l") ∷ [];
+  lines = line (codes "q") (Acquire 0 false) [] ∷ line (codes "m") (MergeIgnore (0 ∷ [])) [] ∷ line (codes "n") last [] ∷ line (codes "r") (Release 0) (1 ∷ 2 ∷ []) ∷ [];
+}
+
+wide_release-refused : ReleaseFaultAt (wide_release (Merge (0 ∷ []))) 3 → ⊥
+wide_release-refused rule = true≢false (sym (rule 0 (line (codes "r") (Release 0) (1 ∷ 2 ∷ [])) refl refl))
+
+wide_release-accepted : Accepted (wide_release (MergeIgnore (0 ∷ [])))
+wide_release-accepted = accepted_by_computing (wide_release (MergeIgnore (0 ∷ []))) refl
 
 open_section-refused : SectionAt open_section 3 0 → ⊥
 open_section-refused rule = elim (rule 1 refl (path_by_table (edges open_section) 5 0 3 refl)) [

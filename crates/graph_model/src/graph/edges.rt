@@ -5,7 +5,6 @@ ghost use Rattle.graph_terms.specs.Graph.{is_phase_of};
 ghost use Rattle.graph_terms.specs.Edges.{edge, last_place, edges_from_some, verb_edges, line_edges};
 
 use graph_terms::limits::MAX_LINES;
-use graph_terms::lists::LineList;
 use graph_terms::verb::{Edge, EdgeKind, Line, Verb};
 use index_spaces::NoMemory;
 use index_spaces::room::{push, push_within, reserve};
@@ -17,7 +16,7 @@ pub(crate) fn list_edges(given: &mut Vec<Edge>, lines: &[Line], line: &Line) -> 
 {
     let place = lines.len() as u32;
     given.clear();
-    push_from(given, line.on, place, EdgeKind::Passes)?;
+    push_sources(given, line.on.as_slice(), place, EdgeKind::Passes)?;
     push_verb_edges(given, lines, place, &line.verb)
 }
 
@@ -25,10 +24,9 @@ pub(crate) fn list_edges(given: &mut Vec<Edge>, lines: &[Line], line: &Line) -> 
 pub(crate) fn count_edges(lines: &[Line], line: &Line) -> usize
     requires { length lines.now ≤ MAX_LINES }
     ensures number { result ≡ length (line_edges lines.now line.now) }
-    ensures few { result ≤ 4294967297 }
+    ensures few { result ≤ 8589934592 }
 {
-    let on = if line.on.is_some() { 1 } else { 0 };
-    on + count_verb_edges(lines, &line.verb)
+    line.on.len() as usize + count_verb_edges(lines, &line.verb)
 }
 
 fn count_verb_edges(lines: &[Line], verb: &Verb) -> usize
@@ -77,8 +75,12 @@ fn push_verb_edges(
     ensures { OnOk result (given.new.items ≡ given.old.items ++ verb_edges lines.now place verb.now) }
 {
     match verb {
-        Verb::Merge { events } => push_sources(given, events, place, EdgeKind::Passes),
-        Verb::MergeIgnore { events } => push_sources(given, events, place, EdgeKind::Ignores),
+        Verb::Merge { events } => {
+            push_sources(given, events.items.as_slice(), place, EdgeKind::Passes)
+        }
+        Verb::MergeIgnore { events } => {
+            push_sources(given, events.items.as_slice(), place, EdgeKind::Ignores)
+        }
         Verb::Trigger { user } => { push_from(given, Some(place), *user, EdgeKind::Passes) }
         Verb::Cancel { user } => push_from(given, Some(place), *user, EdgeKind::Faults),
         Verb::Arrive { phase, .. } => { push_from(given, Some(place), *phase, EdgeKind::Passes) }
@@ -89,15 +91,15 @@ fn push_verb_edges(
     }
 }
 
+/// Puts an edge from each of these lines.
 fn push_sources(
     given: &mut Vec<Edge>,
-    events: &LineList,
+    sources: &[u32],
     to: u32,
     kind: EdgeKind,
 ) -> Result<(), NoMemory>
-    ensures { OnOk result (given.new.items ≡ given.old.items ++ map (λ e. edge e to kind) events.now) }
+    ensures { OnOk result (given.new.items ≡ given.old.items ++ map (λ e. edge e to kind) sources.now) }
 {
-    let sources = events.items.as_slice();
     reserve(given, sources.len())?;
     for from in sources {
         push_within(

@@ -1,18 +1,18 @@
 //! The reasons that refuse an item after a graph.
 
-ghost use Rattle.std.specs.Prelude.{◌≡◌, map, nat_eq, nat_le};
+ghost use Rattle.std.specs.Prelude.{◌≡◌, length, map, nat_eq, nat_le};
 ghost use Rattle.std.specs.List.{list_any};
 ghost use Rattle.graph_terms.specs.declared.verb.Access.{Access};
 ghost use Rattle.graph_terms.specs.Access.{present, columns_alike};
-ghost use Rattle.graph_terms.specs.Fits.{repeats, most_weight, decl_repeats, decl_misnumbered, is_large, named_lines, on_lines, takes_no_on, format_lacks, verb_misnumbered, merges_many};
+ghost use Rattle.graph_terms.specs.Fits.{repeats, most_weight, decl_repeats, decl_misnumbered, is_large, named_lines, takes_no_on, on_unlike, format_lacks, verb_misnumbered, merged_events, names_many};
 
-use super::Graph;
+use super::{Graph, most_events};
 use crate::graph::repeats::{names_repeat, numbers_repeat};
 use graph_indexes::counts::Counts;
 use graph_terms::access::{Accesses, verb_accesses};
 use graph_terms::decl::Decl;
 use graph_terms::format::Format;
-use graph_terms::limits::{MAX_COUNT, MAX_EVENTS};
+use graph_terms::limits::MAX_COUNT;
 use graph_terms::name::Name;
 use graph_terms::verb::{Access, Line, Verb};
 use graph_terms::why::Why;
@@ -67,14 +67,18 @@ impl Graph {
         requires counts { counts.now ≡ counts_of (with_line self.now line.now) }
         ensures { result ≡ line_fault self.now line.now }
     {
-        if self.is_used(&line.name) || self.verb_repeats(&line.verb) || columns_repeat(accesses) {
+        if self.is_used(&line.name)
+            || self.verb_repeats(&line.verb)
+            || columns_repeat(accesses)
+            || numbers_repeat(line.on.as_slice())
+        {
             return Some(Why::Twice);
         }
         if self.line_unknown(line, accesses) {
             return Some(Why::Unknown);
         }
         if self.verb_unlike(&line.verb)
-            || line.on.is_some() && takes_no_on(&line.verb)
+            || on_unlike(self.format, line)
             || format_lacks(self.format, &line.verb)
         {
             return Some(Why::Kind);
@@ -88,7 +92,7 @@ impl Graph {
         if self.arrives_late(&line.verb) {
             return Some(Why::Arrivals);
         }
-        if merges_many(&line.verb) || counts.is_above() {
+        if names_many(self.format, line) || counts.is_above() {
             return Some(Why::Limit);
         }
         None
@@ -129,7 +133,7 @@ impl Graph {
     {
         let lines = self.lines();
         names_past(&line.verb, lines)
-            || is_past(line.on, lines)
+            || any_past(line.on.as_slice(), lines)
             || self.verb_unknown(&line.verb)
             || self.reaches_unknown(accesses)
     }
@@ -315,15 +319,6 @@ fn any_past(events: &[u32], lines: u32) -> bool
     events.iter().any(|event| *event >= lines)
 }
 
-fn is_past(on: Option<u32>, lines: u32) -> bool
-    ensures { result ≡ list_any (λ i. nat_le lines i) (on_lines on) }
-{
-    match on {
-        Some(i) => i >= lines,
-        None => false,
-    }
-}
-
 fn takes_no_on(verb: &Verb) -> bool
     ensures { result ≡ takes_no_on verb.now }
 {
@@ -331,6 +326,15 @@ fn takes_no_on(verb: &Verb) -> bool
         Some(kind) => !kind.takes_on(),
         None => true,
     }
+}
+
+/// Whether events stand behind `on` of a verb that takes none, or several where the format takes
+/// one at most.
+fn on_unlike(format: Format, line: &Line) -> bool
+    ensures { result ≡ on_unlike format line.now.verb line.now.on }
+{
+    let events = line.on.len();
+    events > 0 && takes_no_on(&line.verb) || events > 1 && !format.has_since(Format::Three)
 }
 
 /// Whether a verb is one that the format has not.
@@ -364,12 +368,21 @@ fn verb_misnumbered(format: Format, verb: &Verb) -> bool
     }
 }
 
-fn merges_many(verb: &Verb) -> bool
-    ensures { result ≡ merges_many verb.now }
+/// How many events a merge names. 0 for any other verb.
+fn merged_events(verb: &Verb) -> u32
+    ensures { result ≡ length (merged_events verb.now) }
 {
     match verb {
-        Verb::Merge { events } => events.len() > MAX_EVENTS,
-        Verb::MergeIgnore { events } => events.len() > MAX_EVENTS,
-        _ => false,
+        Verb::Merge { events } => events.len(),
+        Verb::MergeIgnore { events } => events.len(),
+        _ => 0,
     }
+}
+
+/// Whether a merge names too many events, or too many stand behind `on`.
+fn names_many(format: Format, line: &Line) -> bool
+    ensures { result ≡ names_many format line.now.verb line.now.on }
+{
+    let most = most_events(format);
+    merged_events(&line.verb) > most || line.on.len() > most
 }

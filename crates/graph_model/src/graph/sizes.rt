@@ -8,7 +8,7 @@ ghost use Rattle.graph_indexes.specs.Counts.{words_size};
 use super::Graph;
 use crate::graph::words::{fields_size, intervals_size, name_size, number_size, word_size};
 use graph_terms::decl::Decl;
-use graph_terms::lists::LineList;
+use graph_terms::lists::EventList;
 use graph_terms::table::{Kind, MOST_PLACES, Parts, Place};
 use graph_terms::verb::{Line, Verb};
 use index_spaces::Op;
@@ -56,22 +56,25 @@ impl Graph {
         ensures size { result ≡ length (spelled (line_words self.now line.now)) }
         ensures few { result ≤ 549755813888 }
     {
-        name_size(&line.name) + word_size(b"=") + self.verb_size(&line.verb) + self.on_size(line.on)
+        name_size(&line.name)
+            + word_size(b"=")
+            + self.verb_size(&line.verb)
+            + self.on_size(&line.on)
     }
 
-    fn on_size(&self, on: Option<u32>) -> u64
-        ensures size { result ≡ words_size (on_words self.now on) }
-        ensures few { result ≤ 128 }
+    fn on_size(&self, on: &EventList) -> u64
+        ensures size { result ≡ words_size (on_words self.now on.now) }
+        ensures few { result ≤ 274877906890 }
     {
-        match on {
-            Some(i) => word_size(b"on") + self.event_size(i),
-            None => 0,
+        if on.len() == 0 {
+            return 0;
         }
+        word_size(b"on") + self.events_size(on.as_slice())
     }
 
     fn verb_size(&self, verb: &Verb) -> u64
         ensures size { result ≡ words_size (verb_words self.now verb.now) }
-        ensures few { result ≤ 274877908000 }
+        ensures few { result ≤ 274877906890 }
     {
         match verb.kind() {
             Some(kind) => fixed_size(kind) + self.places_size(kind.places(), &verb.parts()),
@@ -82,11 +85,14 @@ impl Graph {
     fn merge_size(&self, verb: &Verb) -> u64
         requires { verb_kind verb.now ≡ None }
         ensures size { result ≡ words_size (verb_words self.now verb.now) }
-        ensures few { result ≤ 274877908000 }
+        ensures few { result ≤ 274877906890 }
     {
         match verb {
-            Verb::Merge { events } => word_size(b"merge") + self.events_size(events),
-            Verb::MergeIgnore { events } => word_size(b"mergei") + self.events_size(events),
+            Verb::Merge { events } => word_size(b"merge")
+                + self.events_size(events.items.as_slice()),
+            Verb::MergeIgnore { events } => {
+                word_size(b"mergei") + self.events_size(events.items.as_slice())
+            }
             _ => unreachable!(),
         }
     }
@@ -127,12 +133,13 @@ impl Graph {
         }
     }
 
-    fn events_size(&self, events: &LineList) -> u64
+    fn events_size(&self, events: &[u32]) -> u64
+        requires { length events.now ≤ u32.MAX }
         ensures size { result ≡ words_size (map (line_name self.now) events.now) }
-        ensures few { result ≤ 274877906944 }
+        ensures few { result ≤ 274877906880 }
     {
         let mut size = 0;
-        for event in events.items.as_slice() {
+        for event in events {
             size += self.event_size(*event);
         }
         size

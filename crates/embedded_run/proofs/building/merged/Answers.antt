@@ -13,5 +13,5 @@ offer-requires c = record { named = ap₂ (λ (g : GraphValue) (l : Line). is_na
 
 pub returns-clause-refused : goal.returns-clause-refused
 returns-clause-refused c =
-    let merge : c.line.result ≡ both_fills = c.line.ensures ∙ ap (λ v. record { name = codes "m"; verb = v; on = None }) c.in_ok-merge.ensures in
+    let merge : c.line.result ≡ both_fills = c.line.ensures ∙ ap₂ (λ v on. record { name = codes "m"; verb = v; on = on }) c.in_ok-merge.ensures c.new.ensures in
     offers_or_memory c.offer.result _ (lined (one_fill ∷ other_fill ∷ [])) _ both_fills c.offer.ensures.refused c.in_ok-graph.ensures.graph merge both_fills_fit

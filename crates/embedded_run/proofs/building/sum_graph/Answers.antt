@@ -13,5 +13,5 @@ offer-requires c = record { named = ap₂ (λ (g : GraphValue) (l : Line). is_na
 
 pub returns-clause-refused : goal.returns-clause-refused
 returns-clause-refused c =
-    let last : c.line.result ≡ sum = c.line.ensures ∙ ap (λ v. record { name = codes "r"; verb = v; on = Some 2 }) c.sum.ensures in
+    let last : c.line.result ≡ sum = c.line.ensures ∙ ap₂ (λ v on. record { name = codes "r"; verb = v; on = on }) c.sum.ensures c.in_ok-on.ensures in
     offers_or_memory c.offer.result _ (lined (one_fill ∷ other_fill ∷ both_fills ∷ [])) _ sum c.offer.ensures.refused c.in_ok-graph.ensures.graph last sum_fits

@@ -6,9 +6,13 @@ use Rattle.graph_reader.specs.declared.item.ItemError.TheVariants as errors
 use Rattle.graph_terms.specs.declared.table.TheConstants.{KINDS}
 use Rattle.graph_words.specs.Draft.{form_of, is_of_form}
 use Rattle.graph_reader.specs.Reading.{IsLineOf}
-use Rattle.graph_reader.proofs.LineShapes.{line_kind}
+use Rattle.graph_reader.proofs.LineShapes.{ignoring_line, line_kind}
 use Rattle.basics.proofs.TestedLists.{found_passes}
 use Rattle.graph_reader.proofs.lines.read_line.Goals as goal
+
+pub returns-then-eq-2 : goal.returns-then-eq-2
+returns-then-eq-2 c = subst (λ d. IsLineOf c.args.graph.now d c.merge_line-then-eq-2.result)
+    (sym (ignoring_line c.args.graph.now c.args.name.now (map (λ (w : Bor (List ℕ)). w.now) c.args.words.now) c.word-verb.result.now c.word-verb.ensures (sym (c.if-eq.ensures ∙ ap (bytes_eq c.word-verb.result.now) c.as_slice.ensures)) (sym (c.if-eq-2.ensures ∙ ap (bytes_eq c.word-verb.result.now) c.as_slice-2.ensures)))) c.merge_line-then-eq-2.ensures
 
 pub kind_line-requires : goal.kind_line-requires
 kind_line-requires c = found_passes (λ k. is_of_form (c.args.graph.now).format (map (λ (w : Bor (List ℕ)). w.now) c.args.words.now) (form_of k)) KINDS c.in-Some.kind (ap (λ fm. find (λ k. is_of_form fm (map (λ (w : Bor (List ℕ)). w.now) c.args.words.now) (form_of k)) KINDS) (sym c.format.ensures) ∙ sym c.in-Some.ensures)

@@ -1,5 +1,4 @@
-use Rattle.std.proofs.Common.{◌≡◌, Bool, List, ℕ, Bor, inr, map, sym, ◌∙◌, ap}
-use Rattle.std.specs.Prelude.{None}
+use Rattle.std.proofs.Common.{◌≡◌, Bool, List, ℕ, Bor, inr, [], map, sym, ◌∙◌, ap}
 use Rattle.graph_terms.specs.declared.verb.Line.{Line}
 use Rattle.graph_terms.specs.Fits.{line_fault}
 use Rattle.graph_reader.specs.Merges.{merge_verb, merge_line}
@@ -7,7 +6,7 @@ use Rattle.graph_reader.proofs.MergeFaults.{merge_refused, lines_twice, lines_fa
 use Rattle.graph_reader.proofs.merges.read_lines.Goals as goal
 
 abbrev line_with : List ℕ → Bool → List ℕ → Line
-line_with name ignores numbers = record { name = name; verb = merge_verb ignores numbers; on = None }
+line_with name ignores numbers = record { name = name; verb = merge_verb ignores numbers; on = [] }
 
 pub returns-in-Ok-true : goal.returns-in-Ok-true
 returns-in-Ok-true c =

@@ -3,7 +3,7 @@ use Rattle.graph_reader.specs.Reading.{IsRefusal}
 use Rattle.graph_answers.specs.Refused.{Refuses}
 use Rattle.graph_answers.specs.Answer.{InputAnswers, Judged}
 use Rattle.program_io.proofs.Public.{answered_by}
-use Rattle.graph_answers.proofs.Delivering.{judged_input, refused_input}
+use Rattle.realm_top.proofs.Answered.{judged_input, refused_input}
 use Rattle.realm_top.proofs.input.answer_graph.Goals as goal
 
 pub returns-in-Ok-clause-answered : goal.returns-in-Ok-clause-answered

@@ -1,7 +1,7 @@
 use Rattle.graph_answers.specs.Refused.{Rejects}
 use Rattle.graph_answers.specs.Answer.{Served, Judged}
 use Rattle.program_io.proofs.Public.{answered_by}
-use Rattle.graph_answers.proofs.Delivering.{served_judged, rejected_judged}
+use Rattle.realm_top.proofs.Answered.{served_judged, rejected_judged}
 use Rattle.realm_top.proofs.input.judge.Goals as goal
 
 pub returns-in-Ok-clause-settled : goal.returns-in-Ok-clause-settled

@@ -1,4 +1,4 @@
-use Rattle.graph_answers.proofs.Delivering.{ends_by_paths}
+use Rattle.realm_top.proofs.Answered.{ends_by_paths}
 use Rattle.realm_top.proofs.laws.paths_tell_ends.Goals as goal
 
 pub returns : goal.returns

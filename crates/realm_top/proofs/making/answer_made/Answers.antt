@@ -4,7 +4,7 @@ use Rattle.graph_gen.specs.MadeGraph.{made_graph}
 use Rattle.graph_answers.specs.Answer.{Judged}
 use Rattle.realm_top.specs.Answer.{MadeAnswers, purpose}
 use Rattle.program_io.proofs.Public.{answered_by}
-use Rattle.graph_answers.proofs.Delivering.{judged_served}
+use Rattle.realm_top.proofs.Answered.{judged_served}
 use Rattle.realm_top.proofs.Ending.{made_ends}
 use Rattle.realm_top.proofs.MadeRequests.{text_made, served_made}
 use Rattle.realm_top.proofs.Requests.{made_else}

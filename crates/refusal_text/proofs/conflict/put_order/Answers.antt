@@ -1,5 +1,5 @@
-use Rattle.std.proofs.Common.{ap, sym}
-use Rattle.std.specs.Prelude.{codes, None}
+use Rattle.std.proofs.Common.{ap, sym, ◌∙◌}
+use Rattle.std.specs.Prelude.{codes, []}
 use Rattle.std.specs.Option.{option_map_or}
 use Rattle.graph_terms.specs.declared.verb.Line.{Line}
 use Rattle.explain_text.specs.Lines.{by_number}
@@ -15,5 +15,5 @@ returns c =
     (then_puts r _ _ _ (codes "to order them, put ") _ c.in_ok-put.ensures
     (then_puts r _ _ _ (by_number g ls c.args.second) _ c.in_ok-put_by_number.ensures
     (then_puts r _ _ _ (codes " ") _ c.in_ok-put-2.ensures
-    (puts_as r c.put-2.new.self c.put_advice_by.new.text (advice_by g c.line.result.now.on c.args.first) (advice_by g (on_of g c.args.second) c.args.first)
-    (ap (λ o. advice_by g o c.args.first) (sym (ap (λ o. option_map_or (λ (l : Line). l.on) o None) c.line.ensures.line))) c.put_advice_by.ensures))))
+    (puts_as r c.put-2.new.self c.put_advice_by.new.text (advice_by g c.as_slice.result.now c.args.first) (advice_by g (on_of g c.args.second) c.args.first)
+    (ap (λ o. advice_by g o c.args.first) (c.as_slice.ensures ∙ sym (ap (λ o. option_map_or (λ (l : Line). l.on) o []) c.line.ensures.line))) c.put_advice_by.ensures))))

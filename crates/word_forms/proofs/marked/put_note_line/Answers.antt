@@ -1,4 +1,3 @@
-use Rattle.std.proofs.Common.{◌++◌}
 use Rattle.std.specs.Prelude.{codes, decimal}
 use Rattle.word_forms.specs.Marked.{slot_text}
 use Rattle.word_forms.proofs.Parts.{then_puts}

@@ -1,4 +1,3 @@
-use Rattle.std.proofs.Common.{◌++◌}
 use Rattle.std.specs.Prelude.{codes}
 use Rattle.word_forms.specs.Order.{interval_text, gap_text}
 use Rattle.word_forms.proofs.Parts.{then_puts}

@@ -5,6 +5,6 @@ use Rattle.graph_model.proofs.graph.Graph.events_size.Given as goal
 
 abbrev pub invariant-loop-event : goal.invariant-loop-event
 invariant-loop-event l = record {
-  sum : l.size ≡ sum_by (λ (i : ℕ). length (line_name l.self i) + 1) (take l.event-index l.event-items);
+  sum : l.size ≡ sum_by (λ (i : ℕ). length (line_name l.self i) + 1) (take l.event-index l.events);
   few : l.size ≤ 64 * l.event-index;
 }

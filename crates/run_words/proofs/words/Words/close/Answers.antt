@@ -21,7 +21,7 @@ use Rattle.basics.proofs.ListFacts.{contains_none}
 use Rattle.run_parts.specs.Room.{HasRoom}
 use Rattle.run_parts.specs.Shown.{IsShown}
 use Rattle.run_words.specs.Reading.{state_for, value_for}
-use Rattle.run_words.specs.declared.spare.Spare.{Spare}
+use Rattle.run_words.specs.declared.closing_room.ClosingRoom.{ClosingRoom}
 use Rattle.run_words.proofs.Resuming.{line_item, shows, none_is_out, none_waits}
 use Rattle.run_words.proofs.words.Words.close.Goals as goal
 
@@ -63,14 +63,14 @@ states_of-states-requires-clause-room c =
     let b = c.close_table-base in
     let own = c.args.self in
     subst (λ (g : GraphValue). length g.lines ≤ vec_capacity b.result.2.states) (sym (c.graph-graph.ensures.graph ∙ ap (λ (x : Base). x.checked.now.graph) b.ensures.base))
-    (subst (λ (s : Spare). length own.base.checked.now.graph.lines ≤ vec_capacity s.states) (sym b.ensures.spare) own.spared.states)
+    (subst (λ (s : ClosingRoom). length own.base.checked.now.graph.lines ≤ vec_capacity s.states) (sym b.ensures.closing_room) own.has_closing_room.states)
 
 pub values_of-phases-requires-clause-room : goal.values_of-phases-requires-clause-room
 values_of-phases-requires-clause-room c =
     let b = c.close_table-base in
     let own = c.args.self in
     subst (λ (g : GraphValue). length g.lines ≤ vec_capacity b.result.2.phases) (sym (c.graph-graph.ensures.graph ∙ ap (λ (x : Base). x.checked.now.graph) b.ensures.base))
-    (subst (λ (s : Spare). length own.base.checked.now.graph.lines ≤ vec_capacity s.phases) (sym b.ensures.spare) own.spared.phases)
+    (subst (λ (s : ClosingRoom). length own.base.checked.now.graph.lines ≤ vec_capacity s.phases) (sym b.ensures.closing_room) own.has_closing_room.phases)
 
 pub values_of-phases-requires-clause-full : goal.values_of-phases-requires-clause-full
 values_of-phases-requires-clause-full c = subst IsFull (sym (c.settle_lines.ensures.same.1 ∙ c.take.ensures.others.3)) c.close_table-base.ensures.full.0
@@ -119,7 +119,7 @@ returns c =
     (λ h has. let a = lost.made h (subst (λ hs. Contains hs h) (sym issue_state.made) has) in (a.0, c.into_table.ensures.answers h ∙ a.1))
     (λ h a at. subst (λ hs. Contains hs h) issue_state.made (lost.only h a (sym (c.into_table.ensures.answers h) ∙ at)))
     (ap (λ (t : EventMap). t.waiters) c.into_table.ensures.map ∙ (lost.shape.1 ∙ (ap (λ (s : Shape). s.waiters) shape ∙ (own.shaped.0 ∙ ap (λ (x : GraphValue). length x.lines) (sym graph)))))
-    (ap (λ (t : EventMap). t.last_gen) c.into_table.ensures.map ∙ (ap (λ (s : Spare). s.table.last_gen) b.ensures.spare ∙ ap (λ (t : EventMap). t.last_gen) own.spared.table))
+    (ap (λ (t : EventMap). t.last_gen) c.into_table.ensures.map ∙ (ap (λ (s : ClosingRoom). s.table.last_gen) b.ensures.closing_room ∙ ap (λ (t : EventMap). t.last_gen) own.has_closing_room.table))
     (λ i j has. contains_none j (subst (λ ws. Contains ws j) (ap (λ (t : EventMap). (life_at t i).waiting) c.into_table.ensures.map ∙ none_waits c.close.result i) has))
     c.as_slice.result.now (c.as_slice.ensures.value ∙ issue_state.listed) c.states_of-states.result c.states_of-states.ensures.each
     (subst (λ ws. (i : ℕ) → i < length g.lines → slice_get c.states_of-states.result i ≡ Some (state_for ws (size_of g) c.as_slice.result.now i)) words_same c.states_of-states.ensures.states)
@@ -132,7 +132,7 @@ returns c =
       run = k.0;
       handled = k.1;
       shown = subst (λ (x : GraphValue). IsShown x k.0 k.1 c.states_of-states.result m c.homes_of-homes.result c.values_of-phases.result) c.graph-graph.ensures.graph shown;
-      room = subst (λ (x : GraphValue). HasRoom x b.result.2.room) (ap (λ (x : Base). x.checked.now.graph) (sym b.ensures.base)) (subst (λ (s : Spare). HasRoom own.base.checked.now.graph s.room) (sym b.ensures.spare) own.spared.room);
+      room = subst (λ (x : GraphValue). HasRoom x b.result.2.room) (ap (λ (x : Base). x.checked.now.graph) (sym b.ensures.base)) (subst (λ (s : ClosingRoom). HasRoom own.base.checked.now.graph s.room) (sym b.ensures.closing_room) own.has_closing_room.room);
       graph = ap (λ (x : Base). x.checked.now.graph) b.ensures.base;
       slots = width;
       enough = (let need = ap (λ (x : Base). x.checked.now.need) b.ensures.base in omega (arith, need, width, own.fitting.0));

@@ -1,6 +1,0 @@
-use Rattle.graph_terms.specs.Access.{accesses}
-use Rattle.race_check.proofs.Asking.{AreFound}
-use Rattle.race_check.proofs.asked.Asked.of.Given as goal
-
-abbrev pub invariant-loop-k : goal.invariant-loop-k
-invariant-loop-k l = record { found : AreFound l.self.used.items l.self.changed.items (accesses l.graph l.line) l.k l.word }

@@ -1,6 +1,0 @@
-use Rattle.std.proofs.Common.{arith}
-use Rattle.race_check.proofs.OrderLoops.{all_no_cycle}
-use Rattle.race_check.proofs.cycle.first_cycle.Goals as goal
-
-pub returns : goal.returns
-returns c = all_no_cycle c.args.graph.now (λ e m. c.edges_between_lines.ensures c.args.graph.now e c.lines-line-end.ensures.is_graph m) c.loop-line.line (omega arith) c.loop-line.invariant

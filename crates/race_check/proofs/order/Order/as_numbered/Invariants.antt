@@ -1,5 +1,0 @@
-use Rattle.race_check.proofs.Numbering.{AreNumbers}
-use Rattle.race_check.proofs.order.Order.as_numbered.Given as goal
-
-abbrev pub invariant-loop-line : goal.invariant-loop-line
-invariant-loop-line l = AreNumbers l.lines.items l.line

@@ -1,0 +1,25 @@
+//! Whether two lines lie in sections of two acquires of one reservation, by one acquire for each.
+
+ghost use Rattle.std.specs.Prelude.{◌≡◌, ℕ, ◌<◌, ◌↔◌, length, IsTrue};
+ghost use Rattle.race_check.specs.Summaries.{AreAlone, ApartIn};
+ghost use Rattle.race_sweeps.specs.Held.{IsHeld};
+
+use graph_model::graph::Graph;
+use race_sweeps::line_sections::{Held, exclude};
+
+/// Whether two lines lie in sections of two different acquires of one reservation, not both shared.
+pub(crate) fn are_apart(graph: &Graph, held: &Held, one: u32, other: u32) -> bool
+    requires one { one < length graph.now.lines }
+    requires other { other < length graph.now.lines }
+    requires held { IsHeld graph.now held.now }
+    requires alone { AreAlone graph.now }
+    ensures { IsTrue result ↔ ((l : ℕ) × ApartIn graph.now l one other) }
+{
+    let _ = graph.lines();
+    for acquires in &held.acquires {
+        if exclude(graph, acquires[one as usize], acquires[other as usize]) {
+            return true;
+        }
+    }
+    false
+}
