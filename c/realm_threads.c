@@ -12,7 +12,7 @@
    back, so that thousands that want one column cost no more than a few. What stands behind it is tried where the first goes on
    without the thing, or shares it; and all are tried before the loop ends. It ends where nothing is out and nothing to try. Where
    lines are left then, each is tried once more: none can be taken, since they wait for what never comes, or the loop has forgotten
-   one. That one is performed, and the call answers so. */
+   some. Those are performed, and the call answers so. */
 #include "proved_calls.h"
 #include <pthread.h>
 #include <stdlib.h>
@@ -171,20 +171,30 @@ static void list_issued(struct loop *loop, const struct realm_run_lines *lines) 
     for (uint32_t line = loop->issued; line > 0; line--) put(loop, &loop->ready, line - 1);
 }
 
-/* Whether the loop has forgotten a line: FORGOTTEN where one can still be issued, or taken, which is performed then. */
-static uint32_t forgotten(struct loop *loop) {
+/* Performs one line that can still be taken. DONE where it did, NONE where none can be taken. */
+static uint32_t perform_one(struct loop *loop) {
     struct proved_held work = {0};
-    uint32_t line, other;
-    if (proved_realm_run_issue(loop->run, &line) == REALM_RUN_DONE) return REALM_MISUSE_FORGOTTEN;
-    for (line = 0; line < loop->lines; line++) {
+    uint32_t other;
+    for (uint32_t line = 0; line < loop->lines; line++) {
         uint32_t status = proved_realm_run_take(loop->run, line, &work, &other);
         if (status == REALM_RUN_NO_MEMORY) return status;
         if (status != REALM_RUN_DONE) continue;
         proved_realm_work_perform(&work);
         proved_realm_run_put_back(loop->run, &work);
-        return REALM_MISUSE_FORGOTTEN;
+        return status;
     }
-    return REALM_RUN_DONE;
+    return REALM_RUN_NONE;
+}
+
+/* Whether the loop has forgotten lines: FORGOTTEN where some can still be issued or taken, and those are performed then. */
+static uint32_t forgotten(struct loop *loop) {
+    uint32_t line, status, answer = REALM_RUN_DONE;
+    do {
+        while (proved_realm_run_issue(loop->run, &line) == REALM_RUN_DONE) answer = REALM_MISUSE_FORGOTTEN;
+        status = perform_one(loop);
+        if (status == REALM_RUN_DONE) answer = REALM_MISUSE_FORGOTTEN;
+    } while (status == REALM_RUN_DONE);
+    return status == REALM_RUN_NO_MEMORY ? status : answer;
 }
 
 static uint32_t run_loop(struct loop *loop, uint32_t threads, struct realm_run_lines *lines) {

@@ -27,8 +27,9 @@ extern "C" {
      UNFIT      the graph breaks a rule
      NO_ROOM    out is too short: it is filled with the first part, and written is the length that it would need
      NO_MEMORY  memory was refused
-     SLOTS      a run is to have fewer event slots than its graph needs
-     TOO_LONG   the text has more than 1,048,576 bytes, for realm_audit more than 2,097,152
+     SLOTS      a run is to have fewer event slots than its graph needs, or its graph needs more than 8,192
+     TOO_LONG   the text has more than 16,777,216 bytes where its first line is `realm 3`, else more than 1,048,576; for realm_audit
+                more than twice as many
      UNLAWFUL   the trace is not lawful
    After an answer but DONE and NO_ROOM out is as it was and written is 0. */
 enum realm_status {
@@ -45,11 +46,11 @@ enum realm_fault { REALM_REPEAT = 1, REALM_WAITS = 2, REALM_SOURCE = 3, REALM_OV
 /* What is told of a text, by the answer. What the answer does not speak of is 0. Lines of the graph are its operations,
    counted from 0, and places of a trace are counted from 0: so whether a 0 tells of one is told by the rule or the fault. */
 struct realm_verdict {
-    uint32_t need;     /* DONE of realm_check and SLOTS: how many event slots are enough for any run, at most 8,192 */
+    uint32_t need;     /* DONE of realm_check and SLOTS: how many event slots are enough for any run, at most 65,536 */
     uint32_t rule;     /* UNFIT: the first rule that is broken */
     uint32_t first;    /* UNFIT: the least line at which it is. UNLAWFUL: for SOURCE, OVERLAP and MISSING the other line */
     uint32_t second;   /* UNFIT: for SECTION, DESCENDS and RACE the second line; the other rules name one */
-    uint64_t line;     /* UNREAD: the first refused line of the text, from 1; in a trace, comments of the graph above it are not counted */
+    uint64_t line;     /* UNREAD: the first refused line of the text, from 1 */
     uint32_t why;      /* UNREAD: the number of its first reason, from 1 */
     uint32_t fault;    /* UNLAWFUL: the first fault of the trace */
     uint32_t place;    /* UNLAWFUL: its place in the trace; MISSING has none */
@@ -101,17 +102,17 @@ enum realm_run_status {
 };
 
 /* Checks a graph as realm_check does, and begins a run of it with so many event slots, at most 8,192; 0 stands for the
-   greater of 256 and the need. DONE; SLOTS exactly where the graph is accepted and they are fewer than its need, want of
-   memory aside; USAGE exactly where they are more than 8,192; UNREAD, UNFIT, NO_MEMORY, TOO_LONG. After each answer but DONE
-   out is empty. Misuse: FILLED where out holds something. */
+   greater of 256 and the need, up to 8,192. DONE; SLOTS exactly where the graph is accepted and they are fewer than its need, or
+   8,192 are where 0 stands, want of memory aside; USAGE exactly where they are more than 8,192; UNREAD, UNFIT, NO_MEMORY,
+   TOO_LONG. After each answer but DONE out is empty. Misuse: FILLED where out holds something. */
 uint32_t realm_run_new(const uint8_t *text, size_t length, uint32_t slots, struct realm_run *out, struct realm_verdict *verdict);
 
 /* Performs all that can be performed, on 1 to 8 threads: the calling one, and others that are started and have ended as the
    call returns; where the system starts fewer, those do all. 0 stands for 1. What was issued before is gone on with. Then
    what is left waits for what never comes, and a report says the rest.
    DONE; NO_MEMORY, and then the run may be gone on with. Misuse: RANGE where there are more threads than 8, WORK_OUT, REPORTED;
-   FORGOTTEN where an operation could still be taken at the end, which never should be. The loop is tested, not proved; each of its steps
-   is a proved call of those below, and no answer of it makes a report wrong. */
+   FORGOTTEN where operations could still be taken at the end, which never should be; they are performed then. The loop is tested,
+   not proved; each of its steps is a proved call of those below, and no answer of it makes a report wrong. */
 uint32_t realm_run_all(struct realm_run *run, uint32_t threads);
 
 /* Issues the next operation of the text. DONE with its number, from 0 in the order of the text, merges and user events included

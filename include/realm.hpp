@@ -118,7 +118,7 @@ struct Work : Handle<realm_work, realm_work_free> {
 };
 
 struct Run : Handle<realm_run, realm_run_free> {
-    // Begins a run in the place of what was held; 0 slots are as many as needed, and 256 at least. Where the status is not
+    // Begins a run in the place of what was held; 0 slots are as many as needed, from 256 to 8,192. Where the status is not
     // REALM_DONE there is none.
     Answer begin(std::string_view text, uint32_t slots = 0) {
         free();

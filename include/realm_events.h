@@ -57,8 +57,8 @@ enum realm_events_status {
     REALM_EVENTS_REFUSED = 8, REALM_EVENTS_WRONG = REALM_MISUSE_WRONG
 };
 
-/* A table with so many slots (1 to 8,192) and waiters (at most 8,192), whose slots serve generation 0 to last_gen, with
-   slots * (last_gen + 1) at most 67,108,864. Nothing was created in it.
+/* A table with so many slots (1 to 8,192) and waiters (at most 65,536), whose slots serve generation 0 to last_gen, with
+   slots * (last_gen + 1) at most 536,870,912. Nothing was created in it.
    DONE; NO_MEMORY; REFUSED exactly where the numbers are beyond these limits. */
 uint32_t realm_events_new(uint32_t slots, uint32_t waiters, uint32_t last_gen, struct realm_held *out_owner);
 

@@ -1,4 +1,4 @@
-/* A loop whose call on woken lines gives none forgets the line that waits; it does not wait, says so and performs it.
+/* A loop whose call on woken lines gives none forgets the lines that wait; it does not wait, says so and performs them.
    Link with -Wl,--wrap=proved_realm_run_woken. The status is 0 where it is so. */
 #include "realm.h"
 #include <stdio.h>

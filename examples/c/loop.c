@@ -5,7 +5,7 @@
 #include "realm_files.h"
 #include <pthread.h>
 
-enum { MOST_LINES = 8192, MOST_THREADS = 8 };
+enum { MOST_LINES = 65536, MOST_THREADS = 8 };
 
 /* All but the lock itself is used under the lock. */
 static pthread_mutex_t lock = PTHREAD_MUTEX_INITIALIZER;

@@ -26,7 +26,7 @@ _realm() {
     make) options="--seed --size --text --workers --engine --hints --slots -o --help" ;;
     upgrade) options="--to -o --help" ;;
     realm-explain) options="--ends --all -o --help" ;;
-    realm-flow) options="--commute -o --help" ;;
+    realm-flow) options="--commute --format -o --help" ;;
     esac
     [[ $word == -* ]] && words="$words $options"
     case $before in
@@ -35,6 +35,7 @@ _realm() {
     --engine) words="words lock" ;;
     --hints) words="queue homes" ;;
     --to) words="3" ;;
+    --format) words="3" ;;
     esac
     [[ -z $words ]] || mapfile -t COMPREPLY < <(compgen -W "$words" -- "$word")
 }

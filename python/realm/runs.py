@@ -47,7 +47,7 @@ class Work:
 
 
 class Run:
-    """A run of a graph, with so many event slots; 0 is as many as needed, and 256 at least. Raises Refused where the graph is not accepted.
+    """A run of a graph, with so many event slots; 0 is as many as needed, from 256 to 8,192. Raises Refused where the graph is not accepted.
 
     `perform_all` does all by threads of the library's own. Else threads of the program's issue, take and put back one at a time, under a lock
     of theirs. Whatever they do, the report is that of `evaluate`. A run may be a context, and is freed behind it.

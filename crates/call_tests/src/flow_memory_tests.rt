@@ -6,6 +6,7 @@ ghost use Rattle.flow_order.specs.Flow.{IsFlow};
 
 use flow_top::{FlowFault, answer_flow, read_flow};
 use graph_model::graph::Graph;
+use graph_terms::format::Format;
 use std::alloc::Global;
 use std::test::Fail;
 use task_flow::{FlowRefusal, make_graph};
@@ -56,10 +57,14 @@ fn sections(rt: HostRuntime) -> Result<(), Fail> {
 #[test]
 fn an_answer(rt: HostRuntime) -> Result<(), Fail> {
     let alloc = rt.alloc();
-    match answer_flow(alloc, FLOW, false) {
+    match answer_flow(alloc, FLOW, false, Format::One) {
         Ok(text) => after("answer_flow", false, text.len() == 128),
         Err(FlowFault::NoMemory) => {
-            after("answer_flow", true, answer_flow(alloc, FLOW, false).is_ok())
+            after(
+                "answer_flow",
+                true,
+                answer_flow(alloc, FLOW, false, Format::One).is_ok(),
+            )
         }
         Err(FlowFault::Line { .. }) => after("answer_flow", false, false),
     }

@@ -4,7 +4,7 @@ ghost use Rattle.std.specs.Prelude.{◌≤◌};
 
 use realm_io::{
     Failed, MemorySink, MemorySource, ReadEnd, Sink, StdSink, StdSource, SureSink, SureSource,
-    WriteFault, put, put_number, read_all,
+    WriteFault, put, put_number, read_all, read_by_start,
 };
 use std::alloc::Global;
 use std::io;
@@ -52,6 +52,37 @@ fn reads_all_or_says_why(rt: HostRuntime) -> Result<(), Fail> {
         if let Ok(all) = answer {
             assert_eq!(rt; all.as_slice(), TEXT);
         }
+    }
+    Ok(())
+}
+
+/// So many bytes that begin so.
+fn begun_by(alloc: Global, start: &[u8], length: usize) -> Result<Vec<u8>, Fail> {
+    let mut bytes = Vec::from_slice(alloc, start)?;
+    bytes.resize(length, b'x')?;
+    Ok(bytes)
+}
+
+#[test]
+fn a_text_may_be_longer_by_how_it_begins(rt: HostRuntime) -> Result<(), Fail> {
+    // how the text begins and how long it is, bytes a read, what is answered where those that begin with `long` may have 5,000
+    // bytes and others 4,101, and how many bytes are left then
+    let table: [(&[u8], usize, usize, Option<ReadEnd>, usize); 7] = [
+        (b"long\n", 5000, 9000, None, 0),
+        (b"long\n", 5000, 1, None, 0),
+        (b"long\n", 6000, 9000, Some(ReadEnd::TooLong), 999),
+        (b"long\n", 6000, 7, Some(ReadEnd::TooLong), 999),
+        (b"longer\n", 4101, 9000, None, 0),
+        (b"longer\n", 6000, 9000, Some(ReadEnd::TooLong), 1898),
+        (b"long", 6000, 2, Some(ReadEnd::TooLong), 1898),
+    ];
+    for (start, length, piece, end, left) in table {
+        let bytes = begun_by(rt.alloc(), start, length)?;
+        let mut source = MemorySource::new(bytes, piece.max(1), Vec::new(rt.alloc()));
+        let answer = read_by_start(rt.alloc(), &mut source, b"long\n", 5000, 4101);
+        assert_eq!(rt; answer.as_ref().err().copied(), end, "{length} {piece}");
+        let rest = read_all(rt.alloc(), &mut source, 9000)?;
+        assert_eq!(rt; rest.len(), left, "{length} {piece}");
     }
     Ok(())
 }

@@ -14,7 +14,7 @@ use Rattle.event_table.proofs.MapAnswers.{is_now}
 use Rattle.event_table.proofs.TableLook.{chain_short, open_turns, shown_pending}
 
 -- what `place_of` knows of the slot i, whose word is w
-module _ (key : Shape) (words : List ℕ) (m : EventMap) (small : key.waiters ≤ 8192) (shown : AreShown key words [] (map_in key words [])) (view : map_in key words [] ≡ m) where
+module _ (key : Shape) (words : List ℕ) (m : EventMap) (small : key.waiters ≤ 65536) (shown : AreShown key words [] (map_in key words [])) (view : map_in key words [] ≡ m) where
   o : AreShown key words [] m
   o = subst (AreShown key words []) view shown
 

@@ -44,7 +44,7 @@ pub total-all_on : (f : ℕ → ℕ) (h : Handle) (ks : List ℕ) → total (λ 
 total-all_on f h [] = refl
 total-all_on f h (k ∷ ks) = omega (arith, total-all_on f h ks)
 
-module _ (shape : Shape) (words : List ℕ) (few : shape.waiters ≤ 8192) where
+module _ (shape : Shape) (words : List ℕ) (few : shape.waiters ≤ 65536) where
   module _ (i : ℕ) (life : SlotLife) (o : IsSlot shape words i life) (short : length life.waiting ≤ shape.waiters) where
     pub turns_at : turns_of (get_or words i 0) ≡ turns_in life
     turns_at = turns_shown shape.last_gen (turns_in life) life.waiting (get_or words i 0) o.word (let l = code_le shape words life.waiting o.linked in omega arith)

@@ -80,7 +80,7 @@ module _ (key : Shape) (words free : List ℕ) (cs : List Chain) (m : EventMap) 
       }
 
 -- a generation has at most 26 bits
-pub gens_low : (key : Shape) (i : ℕ) → IsSized key → i < key.slots → key.last_gen < 67108864
+pub gens_low : (key : Shape) (i : ℕ) → IsSized key → i < key.slots → key.last_gen < 536870912
 gens_low key i sized near = let a : 1 * (key.last_gen + 1) ≤ key.slots * (key.last_gen + 1) = mul-le-mul_right (key.last_gen + 1) sized.0 in omega (arith, sized.3)
 
 -- what `create` did at the slot i, where it found the word w

@@ -47,7 +47,7 @@ module _ (life : SlotLife) (g : ℕ) (a : Answer) (e : answer_in life g ≡ Some
   pub many_turns : 2 * g + 2 ≤ turns_in life → (g < length life.fates) × (a ≡ answer_of (get_or life.fates g Ok))
   many_turns l = ⊎_elim (λ t. t) (λ t. let z = open_turns life t.0 in absurd (omega (arith, t.1))) (in_cases life g a e)
 
-module _ (key : Shape) (words : List ℕ) (cs : List Chain) (m : EventMap) (small : key.waiters ≤ 8192) (o : AreShown key words cs m) (h : Handle) (a : Answer) (e : answer m h ≡ Some a) where
+module _ (key : Shape) (words : List ℕ) (cs : List Chain) (m : EventMap) (small : key.waiters ≤ 65536) (o : AreShown key words cs m) (h : Handle) (a : Answer) (e : answer m h ≡ Some a) where
   pub look_near : h.slot < key.slots
   look_near = let n = near_some m h a e in omega (arith, o.high)
 
@@ -69,7 +69,7 @@ module _ (key : Shape) (words : List ℕ) (cs : List Chain) (m : EventMap) (smal
       e ∙ ap (λ x. Some x) (t.1 ∙ ap answer_of (sym (code_answer (mark key words h) (get_or (life_at m h.slot).fates h.gen_ Ok) ((o.each h.slot look_near).marks h.gen_ t.0))))
 
 -- WHAT HOLDS OF EACH TABLE
-module _ (key : Shape) (words : List ℕ) (cs : List Chain) (m : EventMap) (small : key.waiters ≤ 8192) (o : AreShown key words cs m) where
+module _ (key : Shape) (words : List ℕ) (cs : List Chain) (m : EventMap) (small : key.waiters ≤ 65536) (o : AreShown key words cs m) where
   all_weights : (f : ℕ → ℕ) → weight f m ≤ below f m.waiters
   all_weights f = subst (λ w. weight f m ≤ below f w) (sym o.waiters) (o.once f)
 
@@ -135,7 +135,7 @@ pub record Looks (key : Shape) (words : List ℕ) (m : EventMap) (h : Handle) : 
   pub pending : turns_of (get_or words h.slot 0) < 2 * h.gen_ + 2 → answer m h ≡ Some Pending
   pub ended : 2 * h.gen_ + 2 ≤ turns_of (get_or words h.slot 0) → answer m h ≡ Some (answer_of (fate_by (mark key words h)))
 
-pub looks : (key : Shape) (words : List ℕ) (cs : List Chain) (m : EventMap) (h : Handle) → key.waiters ≤ 8192 → AreShown key words cs (map_in key words cs) → map_in key words cs ≡ m → IsCreated m h → h ≢ no_event → Looks key words m h
+pub looks : (key : Shape) (words : List ℕ) (cs : List Chain) (m : EventMap) (h : Handle) → key.waiters ≤ 65536 → AreShown key words cs (map_in key words cs) → map_in key words cs ≡ m → IsCreated m h → h ≢ no_event → Looks key words m h
 looks key words cs m h small o view is n =
     let t = has_answer m h is n in
     let e : answer (map_in key words cs) h ≡ Some t.0 = ap (λ x. answer x h) view ∙ t.1 in
@@ -150,7 +150,7 @@ pub record Opens (key : Shape) (words free : List ℕ) (cs : List Chain) : Type 
   pub kept : AreKept key words free cs (map_in key words cs)
   pub map : map_in key words cs ≡ fresh key.slots key.waiters key.last_gen
 
-pub opens : (key : Shape) (words shown free : List ℕ) (cs : List Chain) → key.waiters ≤ 8192 → ((i : ℕ) → get_or words i 0 ≡ 0) → key.slots + key.waiters ≤ length words → shown ≡ words → cs ≡ []
+pub opens : (key : Shape) (words shown free : List ℕ) (cs : List Chain) → key.waiters ≤ 65536 → ((i : ℕ) → get_or words i 0 ≡ 0) → key.slots + key.waiters ≤ length words → shown ≡ words → cs ≡ []
     → ((i : ℕ) → Contains free i → (i < key.slots) × (get_or shown i 0 % 4294967296 ≡ 0)) → ((i : ℕ) → i < key.slots → get_or shown i 0 % 4294967296 ≡ 0 → Contains free i) → ((f : ℕ → ℕ) → total f free ≤ below f key.slots)
     → Opens key words free cs
 opens key words shown free cs small word wide same none low all apart =
@@ -159,7 +159,7 @@ opens key words shown free cs small word wide same none low all apart =
     subst (Opens key words free) (sym none) (record { kept = as_read key words small free [] (fresh key.slots key.waiters key.last_gen) kept; map = map_read key words small [] (fresh key.slots key.waiters key.last_gen) kept.shown })
 
 -- WHAT THE WORDS ANSWER FOR A HANDLE
-module _ (key : Shape) (words : List ℕ) (cs : List Chain) (m : EventMap) (small : key.waiters ≤ 8192) (o : AreShown key words cs m) (h : Handle) where
+module _ (key : Shape) (words : List ℕ) (cs : List Chain) (m : EventMap) (small : key.waiters ≤ 65536) (o : AreShown key words cs m) (h : Handle) where
   module _ (near : h.slot < key.slots) where
     shown_turns : turns_of (get_or words h.slot 0) ≡ turns_in (life_at m h.slot)
     shown_turns = turns_at key words small h.slot (life_at m h.slot) (o.each h.slot near) (chain_short key words cs m o h.slot)

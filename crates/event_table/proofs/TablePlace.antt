@@ -112,9 +112,9 @@ module _ (key : Shape) (words free : List ℕ) (cs : List Chain) (h : Handle) (k
     pub near : h.slot < key.slots
     pub low : k < key.waiters
     pub head : w % 4294967296 ≡ 1 + code (life_at (map_in key words cs) h.slot).waiting
-    pub small : code (life_at (map_in key words cs) h.slot).waiting ≤ 8192
+    pub small : code (life_at (map_in key words cs) h.slot).waiting ≤ 65536
     pub base : w ≡ length (life_at (map_in key words cs) h.slot).fates * 4294967296 + 1 + code (life_at (map_in key words cs) h.slot).waiting
-    pub few : length (life_at (map_in key words cs) h.slot).fates < 67108864
+    pub few : length (life_at (map_in key words cs) h.slot).fates < 536870912
 
   pub place_at : PlaceAt
   place_at =

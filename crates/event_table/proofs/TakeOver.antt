@@ -32,14 +32,14 @@ weightless : (f : ℕ → ℕ) (ls : List SlotLife) → total (λ (l : SlotLife)
 weightless f [] = refl
 weightless f (l ∷ ls) = omega (arith, weightless f ls)
 
-module _ (from to : Shape) (old words : List ℕ) (m : EventMap) (small : from.waiters ≤ 8192) (o : AreShown from old [] m) where
+module _ (from to : Shape) (old words : List ℕ) (m : EventMap) (small : from.waiters ≤ 65536) (o : AreShown from old [] m) where
   slot_turns : (i : ℕ) → i < from.slots → turns_of (get_or old i 0) ≡ turns_in (life_at m i)
   slot_turns i near = turns_at from old small i (life_at m i) (o.each i near) (chain_short from old [] m o i)
 
   pub turns_bounded : (i : ℕ) → i < from.slots → turns_of (get_or old i 0) ≤ 2 * from.last_gen + 2
   turns_bounded i near = let few = (o.each i near).word.few in omega (arith, slot_turns i near)
 
-module _ (from to : Shape) (old words : List ℕ) (m : EventMap) (small : from.waiters ≤ 8192) (o : AreShown from old [] m) (slots : to.slots ≡ from.slots) (waiters : to.waiters ≡ from.waiters)
+module _ (from to : Shape) (old words : List ℕ) (m : EventMap) (small : from.waiters ≤ 65536) (o : AreShown from old [] m) (slots : to.slots ≡ from.slots) (waiters : to.waiters ≡ from.waiters)
     (wide : to.slots + to.waiters ≤ length words) (taken : (i : ℕ) → i < to.slots → IsTakenOver to from words old i) where
   slot_freed : (i : ℕ) → i < to.slots → IsSlot to words i (without_waiters (life_at m i))
   slot_freed i near =
@@ -111,7 +111,7 @@ pub takes_over : (from to : Shape) (old words shown free : List ℕ) (cs : List 
     → TakesOver to words free cs (map_in from old [])
 takes_over from to old words shown free cs sized same-size o wide taken same none low all apart =
     let m : EventMap = map_in from old [] in
-    let small : from.waiters ≤ 8192 = sized.2 in
+    let small : from.waiters ≤ 65536 = sized.2 in
     let slots = same-size.0 in
     let at : (i : ℕ) → get_or shown i 0 ≡ get_or words i 0 = λ i. ap (λ l. get_or l i 0) same in
     let kept = freed_kept from to old words m small o slots same-size.1 wide taken free (λ i c. let t = low i c in (omega (arith, t.0), ap (λ w. w % 4294967296) (sym (at i)) ∙ t.1)) (λ i l z. all i (omega arith) (ap (λ w. w % 4294967296) (at i) ∙ z)) (λ f. subst (λ n. total f free ≤ below f n) (sym slots) (apart f)) in

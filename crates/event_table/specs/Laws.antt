@@ -27,7 +27,7 @@ TurnsByChainCode = (w t : ℕ) → (w % 4294967296 ≡ 0 → t ≡ 2 * (w / 4294
 
 -- a word that shows turns has those
 abbrev pub TurnsAreShown : Type 0
-TurnsAreShown = (last t : ℕ) (c : List ℕ) (w : ℕ) → Shows last t c w → code c ≤ 8192 → turns_of w ≡ t
+TurnsAreShown = (last t : ℕ) (c : List ℕ) (w : ℕ) → Shows last t c w → code c ≤ 65536 → turns_of w ≡ t
 
 -- a write below the links leaves each chain linked
 abbrev pub LinksStayBelow : Type 0

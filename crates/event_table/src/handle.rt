@@ -37,8 +37,8 @@ pub enum WatchNow {
     Over(Fate),
 }
 
-/// The size of a table: 1 to 8,192 slots, at most 8,192 waiters, and the last generation of a slot,
-/// with at most 67,108,864 generations in all.
+/// The size of a table: 1 to 8,192 slots, at most 65,536 waiters, and the last generation of a slot,
+/// with at most 536,870,912 generations in all.
 #[derive(Clone, Copy)]
 pub struct Shape {
     pub slots: u32,

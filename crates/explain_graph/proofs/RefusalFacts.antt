@@ -1,6 +1,6 @@
 -- What the refusals of the checker tell of paths, acquires and releases.
 use Rattle.std.proofs.Common.{◌≡◌, ◌≢◌, ℕ, ◌<◌, ◌≤◌, Bool, true, false, not, inl, inr, List, [], ◌∷◌, length, refl, sym, ◌∙◌, ap, subst, arith}
-use Rattle.std.specs.Prelude.{nat_lt, find, slice_get, Option, Some, None, IsTrue, IfSome, MatchOption, Vec}
+use Rattle.std.specs.Prelude.{nat_lt, find, slice_get, Option, Some, None, Contains, IsTrue, IfSome, MatchOption, Vec}
 use Rattle.std.specs.Global.{Global}
 use Rattle.std.specs.List.{list_all}
 use Rattle.std.proofs.lemmas.Bool.{true≢false, cases_lt, lt-ltb, and_from, not_from_false, true_from_ne_false}
@@ -17,6 +17,9 @@ use Rattle.graph_terms.proofs.Public.{passes_below, release_one, release_names, 
 use Rattle.explanations.specs.Paths.{IsShortest}
 use Rattle.explanations.specs.Meetings.{IsNearestCommon}
 use Rattle.explanations.specs.declared.meetings.Meeting.{Meeting}
+use Rattle.tried_advice.specs.declared.form.Form.{Form}
+use Rattle.tried_advice.specs.Forms.{tried_forms}
+use Rattle.tried_advice.specs.Orders.{Orders, NoneOrders}
 use Rattle.explanations.proofs.PathFacts.{paths_listed}
 use Rattle.explanations.proofs.SectionFacts.{releases_from, lock_is}
 
@@ -81,3 +84,9 @@ stands_on_none g i l at fails none = by l.on refl
 pub meeting_of : (g : GraphValue) (i j : ℕ) (o : Option Meeting) → IfSome o (IsNearestCommon g i j) → (o ≡ None → (k : ℕ) → HasPath g k i → HasPath g k j → ⊥) → MatchOption o ((k : ℕ) → HasPath g k i → HasPath g k j → ⊥) (IsNearestCommon g i j)
 meeting_of g i j None s none = none refl
 meeting_of g i j (Some m) s none = s
+
+-- what orders two lines, or that nothing does which was tried by these sections
+pub advice_of : (g : GraphValue) (i j : ℕ) (first second qs ks : List ℕ) (o : Option Form) → qs ≡ first → ks ≡ second → IfSome o (λ form. Contains (tried_forms g i j qs ks) form × Orders g i j form)
+    → (o ≡ None → NoneOrders g i j (tried_forms g i j qs ks)) → MatchOption o (NoneOrders g i j (tried_forms g i j first second)) (Orders g i j)
+advice_of g i j first second qs ks None one other found none = subst (λ xs. NoneOrders g i j (tried_forms g i j xs second)) one (subst (λ xs. NoneOrders g i j (tried_forms g i j qs xs)) other (none refl))
+advice_of g i j first second qs ks (Some form) one other found none = found.1

@@ -13,6 +13,8 @@ use Rattle.race_check.specs.declared.checked.CheckRefusal.TheVariants as refusal
 use Rattle.explanations.specs.Paths.{IsShortest}
 use Rattle.explanations.specs.Shared.{AreUses, IsLeastShared}
 use Rattle.explanations.specs.Meetings.{IsNearestCommon}
+use Rattle.tried_advice.specs.Forms.{tried_forms}
+use Rattle.tried_advice.specs.Orders.{Orders, NoneOrders}
 use Rattle.explain_graph.specs.declared.reasons.CycleReason.{CycleReason}
 use Rattle.explain_graph.specs.declared.reasons.UnreleasedReason.{UnreleasedReason}
 use Rattle.explain_graph.specs.declared.reasons.SectionReason.{SectionReason}
@@ -68,7 +70,7 @@ pub record AreSectionsOf (g : GraphValue) (i : ℕ) (acquires : List ℕ) : Type
   pub sound : (q : ℕ) → Contains acquires q → (l : ℕ) × Section g l q i
   pub complete : (l q : ℕ) → Section g l q i → Contains acquires q
 
--- where lines i and j meet, that neither waits for the other, which line both wait for, whether what they do there may come in either order, and the sections in which they lie, which do not set them apart
+-- where lines i and j meet, that neither waits for the other, which line both wait for, whether what they do there may come in either order, the sections in which they lie, which do not set them apart, and what orders them and breaks no rule, or that nothing does which was tried
 pub record IsConflictReason (g : GraphValue) (i j : ℕ) (r : ConflictReason) : Type 0 where
   pub first : r.first ≡ i
   pub second : r.second ≡ j
@@ -80,6 +82,7 @@ pub record IsConflictReason (g : GraphValue) (i j : ℕ) (r : ConflictReason) : 
   pub first_sections : AreSectionsOf g i r.sections.first.items
   pub second_sections : AreSectionsOf g j r.sections.second.items
   pub not_exempt : Exempt g i j → ⊥
+  pub advice : MatchOption r.advice (NoneOrders g i j (tried_forms g i j r.sections.first.items r.sections.second.items)) (Orders g i j)
 
 -- an explanation of just this refusal
 abbrev pub IsExplanation : GraphValue → CheckRefusal → Explanation → Type 0

@@ -29,7 +29,7 @@ pub enum Explanation {
 }
 
 /// Explains just this refusal of a graph, as the checker gave it. It takes a few searches over all
-/// edges.
+/// edges, and of a race a few checks of the graph with a line or two changed.
 pub fn explain(alloc: Global, graph: &Graph, why: CheckRefusal) -> Result<Explanation, NoMemory>
     requires a_rule { why ≢ CheckRefusal.NoMemory }
     requires lines { NamesLines graph.now why }

@@ -13,6 +13,8 @@ use graph_model::graph::Graph;
 use graph_terms::verb::{Edge, Mode, Verb};
 use index_spaces::NoMemory;
 use std::alloc::Global;
+use tried_advice::advise;
+use tried_advice::form::Form;
 
 /// A line, and a shortest cycle through it.
 #[derive(Drop)]
@@ -72,7 +74,8 @@ pub struct Sections {
 }
 
 /// Two lines that race, and why they do, with the sections in which they lie, which do not set them
-/// apart, and whether both reduce in one way into the point that they share.
+/// apart, whether both reduce in one way into the point that they share, and what orders them and breaks
+/// no rule. `None` where nothing does that was tried.
 #[derive(Drop)]
 pub struct ConflictReason {
     pub first: u32,
@@ -80,6 +83,7 @@ pub struct ConflictReason {
     pub race: RaceReason,
     pub commutes: bool,
     pub sections: Sections,
+    pub advice: Option<Form>,
 }
 
 /// Explains a cycle.
@@ -214,7 +218,7 @@ fn ignores_faults(graph: &Graph, line: u32) -> bool
     line < graph.lines() && matches!(graph.line(line).verb, Verb::MergeIgnore { .. })
 }
 
-/// Explains a race.
+/// Explains a race. It takes a few checks of the graph, with a line or two of it changed.
 pub(crate) fn explain_conflict(
     alloc: Global,
     graph: &Graph,
@@ -232,12 +236,21 @@ pub(crate) fn explain_conflict(
         first: sections_of(alloc, graph, first)?,
         second: sections_of(alloc, graph, second)?,
     };
+    let advice = advise(
+        alloc,
+        graph,
+        first,
+        second,
+        sections.first.as_slice(),
+        sections.second.as_slice(),
+    )?;
     Ok(ConflictReason {
         first,
         second,
         race,
         commutes,
         sections,
+        advice,
     })
 }
 

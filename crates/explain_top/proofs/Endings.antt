@@ -1,18 +1,17 @@
 -- How the program ends tells what became of the input.
-use Rattle.std.proofs.Common.{◌≡◌, ℕ, ◌+◌, ◌<◌, ◌≤◌, ◌⊎◌, inr, Bool, List, length, refl, sym, subst, arith}
+use Rattle.std.proofs.Common.{◌≡◌, ℕ, ◌<◌, ◌≤◌, ◌⊎◌, inr, Bool, List, length, refl, sym, subst, arith}
 use Rattle.std.specs.Prelude.{Option, Some}
 use Rattle.std.specs.Io.KnownBytes.{Consumes, IsAtEnd}
-use Rattle.graph_terms.specs.declared.limits.TheConstants.{MAX_TEXT}
 use Rattle.graph_terms.specs.Graph.{GraphValue}
 use Rattle.graph_meaning.specs.Rules.{Accepted}
 use Rattle.graph_reader.specs.Laws.{OneReading}
 use Rattle.graph_reader.proofs.ReadSoFar.{first_fault}
+use Rattle.graph_words.specs.Limits.{text_limit}
 use Rattle.graph_words.specs.Text.{GraphText}
 use Rattle.realm_io.specs.Counts.{Rose}
-use Rattle.realm_io.specs.Told.{Lost}
 use Rattle.realm_io.specs.SinkState.{SinkState}
 use Rattle.program_io.specs.Delivered.{Delivered, BrokenOff, too_long_text}
-use Rattle.program_io.proofs.Public.{all_read, more_left, answered_as, cut_off_as, complete_as}
+use Rattle.program_io.proofs.Public.{all_read, answered_as, cut_off_as, complete_as}
 use Rattle.explain_top.specs.Answer.{IsUnfitAnswer, IsUnreadAnswer, IsAnswerIn}
 use Rattle.explain_top.specs.declared.answer.Verdict.{Verdict}
 use Rattle.explain_top.specs.declared.answer.Verdict.TheVariants as verdict
@@ -33,11 +32,11 @@ answered_with ends all bytes v text shown s t result status a same is d =
     inr (status_of v, text, verdict_answers ends all bytes text v a, subst (λ w. Delivers s t w result text) is (subst (λ out. Delivers s t status result out) same d))
 
 -- the text of an accepted graph is answered so
-is_accepted : (ends all : Bool) (bytes : List ℕ) → OneReading bytes → length bytes ≤ MAX_TEXT → (g : GraphValue) → GraphText bytes g → Accepted g → (status : Status) (out : List ℕ) → Answers ends all bytes status out → status ≡ Fine
+is_accepted : (ends all : Bool) (bytes : List ℕ) → OneReading bytes → length bytes ≤ text_limit bytes → (g : GraphValue) → GraphText bytes g → Accepted g → (status : Status) (out : List ℕ) → Answers ends all bytes status out → status ≡ Fine
 is_accepted ends all bytes one short g t acc Fine out a = refl
 is_accepted ends all bytes one short g t acc Unfit out a = absurd (let u : IsUnfitAnswer all bytes a.whole = a.answers in u.broken (subst Accepted (one.one_graph g u.graph t u.is_text) acc))
 is_accepted ends all bytes one short g t acc Unread out a = absurd (let u : IsUnreadAnswer all bytes a.whole = a.answers in one.not_both (g, t) (u.number, u.why, first_fault bytes u.number u.why u.above u.refused))
-is_accepted ends all bytes one short g t acc TooLong out a = absurd (let l : MAX_TEXT < length bytes = a.0 in omega (arith, short, l))
+is_accepted ends all bytes one short g t acc TooLong out a = absurd (let l : text_limit bytes < length bytes = a.0 in omega (arith, short, l))
 is_accepted ends all bytes one short g t acc _ out a = absurd a
 
 -- AN INPUT THAT WAS ANSWERED: what was answered, by the status
@@ -47,7 +46,7 @@ module _ (ends all : Bool) (bytes : List ℕ) (s t : SinkState) (result : Status
   by_verdict verdict.Unfit is = answered_as (Answers ends all bytes) s t result Unfit answered is (λ x. cc) (λ x. cc)
   by_verdict verdict.Unread is = answered_as (Answers ends all bytes) s t result Unread answered is (λ x. cc) (λ x. cc)
 
-  pub too_long : result ≡ TooLong → (MAX_TEXT < length bytes) × Delivered s t too_long_text
+  pub too_long : result ≡ TooLong → (text_limit bytes < length bytes) × Delivered s t too_long_text
   too_long is = let d = answered_as (Answers ends all bytes) s t result TooLong answered is (λ x. cc) (λ x. cc) in (d.1.0, subst (Delivered s t) d.1.1 d.2)
 
   pub broken_off : result ≡ WriteFault → (status : Status) × (out : List ℕ) × Answers ends all bytes status out × BrokenOff s t out
@@ -59,7 +58,7 @@ module _ (ends all : Bool) (bytes : List ℕ) (s t : SinkState) (result : Status
   pub read_fault_never : result ≡ ReadFault → ⊥
   read_fault_never is = (answered_as (Answers ends all bytes) s t result ReadFault answered is (λ x. cc) (λ x. cc)).1
 
-  pub complete : OneReading bytes → length bytes ≤ MAX_TEXT → (g : GraphValue) → GraphText bytes g → Accepted g → (Rose s.faults t.faults → ⊥) → (result ≡ Fine) ⊎ (result ≡ NoMemory)
+  pub complete : OneReading bytes → length bytes ≤ text_limit bytes → (g : GraphValue) → GraphText bytes g → Accepted g → (Rose s.faults t.faults → ⊥) → (result ≡ Fine) ⊎ (result ≡ NoMemory)
   complete one short g is acc silent = complete_as (Answers ends all bytes) s t result Fine (is_accepted ends all bytes one short g is acc) answered silent
 
 -- the bytes that were read are all that was left, and where those are too long, more was left
@@ -68,5 +67,6 @@ pub all_answered : (ends all : Bool) (old new : Option (List ℕ)) (read seen : 
 all_answered ends all old new read seen s t result read_all at_end same a bytes left =
     subst (λ x. IsAnswered ends all x s t result) (sym (all_read old new read read_all at_end bytes left)) (subst (λ x. IsAnswered ends all x s t result) same a)
 
-pub long_answered : (ends all : Bool) (old new : Option (List ℕ)) (s t : SinkState) (result : Status) → Lost old new (MAX_TEXT + 1) → Delivers s t TooLong result too_long_text → (bytes : List ℕ) → old ≡ Some bytes → IsAnswered ends all bytes s t result
-long_answered ends all old new s t result lost d bytes left = inr (TooLong, too_long_text, (more_left old new MAX_TEXT lost bytes left, refl), d)
+pub long_answered : (ends all : Bool) (old : Option (List ℕ)) (s t : SinkState) (result : Status) → ((xs : List ℕ) → old ≡ Some xs → text_limit xs < length xs) → Delivers s t TooLong result too_long_text → (bytes : List ℕ) → old ≡ Some bytes
+    → IsAnswered ends all bytes s t result
+long_answered ends all old s t result long d bytes left = inr (TooLong, too_long_text, (long bytes left, refl), d)

@@ -1,6 +1,6 @@
 -- How the program ends.
 use Rattle.std.specs.Prelude.{◌≡◌, ℕ, ◌<◌, Bool, List, length}
-use Rattle.graph_terms.specs.declared.limits.TheConstants.{MAX_TEXT}
+use Rattle.graph_words.specs.Limits.{text_limit}
 use Rattle.realm_io.specs.SinkState.{SinkState}
 use Rattle.program_io.specs.Delivered as program
 use Rattle.program_io.specs.Delivered.{too_long_text}
@@ -31,7 +31,7 @@ abbrev pub Answers : Bool → Bool → List ℕ → Status → List ℕ → Type
 Answers ends all bytes Accepted out = IsAnswerIn ends all bytes verdict.Accepted out
 Answers ends all bytes Unfit out = IsAnswerIn ends all bytes verdict.Unfit out
 Answers ends all bytes Unread out = IsAnswerIn ends all bytes verdict.Unread out
-Answers ends all bytes TooLong out = (MAX_TEXT < length bytes) × (out ≡ too_long_text)
+Answers ends all bytes TooLong out = (text_limit bytes < length bytes) × (out ≡ too_long_text)
 Answers ends all bytes _ out = ⊥
 
 -- a text that goes with a status was delivered, or a fault broke it off

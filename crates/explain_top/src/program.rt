@@ -4,6 +4,7 @@ ghost use Rattle.std.specs.Prelude.{◌≡◌, ◌⊎◌, ℕ, ◌<◌, ◌≤�
 ghost use Rattle.graph_terms.specs.Graph.{GraphValue};
 ghost use Rattle.graph_meaning.specs.Rules.{Accepted};
 ghost use Rattle.graph_words.specs.Text.{GraphText};
+ghost use Rattle.graph_words.specs.Limits.{text_limit};
 ghost use Rattle.realm_io.specs.Counts.{Rose};
 ghost use Rattle.explain_top.specs.Answer.{IsAnswerIn};
 ghost use Rattle.program_io.specs.Delivered.{Delivered, BrokenOff, too_long_text};
@@ -12,9 +13,10 @@ ghost use Rattle.explain_top.specs.declared.answer.Verdict.{Verdict};
 
 use crate::answer::{Verdict, explain_in};
 use graph_reader::laws::bytes_have_one_reading;
-use graph_terms::limits::MAX_TEXT;
+use graph_terms::limits::{MAX_TEXT, MAX_TEXT_OF_THREE};
+use graph_words::limits::LONG_START;
 use program_io::{ProgramStatus, put_text, put_too_long};
-use realm_io::{ReadEnd, Sink, Source, read_all};
+use realm_io::{ReadEnd, Sink, Source, read_by_start};
 use std::alloc::Global;
 
 /// How the program ends.
@@ -34,7 +36,7 @@ pub enum Status {
     WriteFault,
     /// Memory ran out, before anything was written.
     NoMemory,
-    /// The input has more than 1,048,576 bytes.
+    /// The input has more bytes than a text that begins so may have.
     TooLong,
 }
 
@@ -78,9 +80,9 @@ pub fn run<S: Source, K: Sink>(
     ensures answered { (bytes : List ℕ) (verdict : Verdict) → S.left source.old ≡ Some bytes → result ≡ status_of verdict
         → (out : List ℕ) × IsAnswerIn ends all bytes verdict out × Delivered (K.state sink.old) (K.state sink.new) out }
 
-    // TooLong: more than 1,048,576 bytes were left, and the line that says so was written and flushed.
+    // TooLong: more bytes were left than a text that begins so may have, and the line that says so was written and flushed.
     ensures too_long { result ≡ Status.TooLong → (bytes : List ℕ) → S.left source.old ≡ Some bytes
-        → (MAX_TEXT < length bytes) × Delivered (K.state sink.old) (K.state sink.new) too_long_text }
+        → (text_limit bytes < length bytes) × Delivered (K.state sink.old) (K.state sink.new) too_long_text }
 
     // ReadFault, WriteFault: such a fault was counted in this call. NoMemory and ReadFault: nothing was written.
     ensures read_fault { result ≡ Status.ReadFault → Rose (S.faults source.old) (S.faults source.new) × (sink.new ≡ sink.old) }
@@ -93,12 +95,18 @@ pub fn run<S: Source, K: Sink>(
         × Answers ends all bytes status out × BrokenOff (K.state sink.old) (K.state sink.new) out }
 
     // The text of a graph that is accepted is answered so, where with its comments it is not too long, unless a fault was counted or memory ran out.
-    ensures complete { (bytes : List ℕ) (g : GraphValue) → S.left source.old ≡ Some bytes → length bytes ≤ MAX_TEXT → GraphText bytes g → Accepted g
+    ensures complete { (bytes : List ℕ) (g : GraphValue) → S.left source.old ≡ Some bytes → length bytes ≤ text_limit bytes → GraphText bytes g → Accepted g
         → ¬ (Rose (S.faults source.old) (S.faults source.new)) → ¬ (Rose (K.state sink.old).faults (K.state sink.new).faults)
         → (result ≡ Status.Accepted) ⊎ (result ≡ Status.NoMemory) }
 {
     bytes_have_one_reading();
-    match read_all(alloc, source, MAX_TEXT as u32) {
+    match read_by_start(
+        alloc,
+        source,
+        LONG_START,
+        MAX_TEXT_OF_THREE as u32,
+        MAX_TEXT as u32,
+    ) {
         Ok(bytes) => answer(alloc, bytes.as_slice(), sink, ends, all),
         Err(ReadEnd::TooLong) => put_too_long(sink, Status::TooLong),
         Err(ReadEnd::ReadFault) => Status::ReadFault,

@@ -58,11 +58,11 @@ or_none true = refl
 or_none false = refl
 
 -- a line with one part, which is not large
-pub only_part : (f : GraphValue) (commute : Bool) (n : ℕ) (p : Parts) (few : List (List ℕ)) → p.large ≡ filter is_large (parts_at f commute n (accesses f n)) → few ≡ filter (λ q. not (is_large q)) (parts_at f commute n (accesses f n)) → p.large ≡ [] → few ≡ p.small ∷ [] →
+pub only_part : (f : GraphValue) (commute : Bool) (n : ℕ) (p : Parts) (few : List (List ℕ)) → p.large ≡ filter (is_large f.format) (parts_at f commute n (accesses f n)) → few ≡ filter (λ q. not (is_large f.format q)) (parts_at f commute n (accesses f n)) → p.large ≡ [] → few ≡ p.small ∷ [] →
     p ≡ parts_of f commute (sources_after f commute n) n
 only_part f commute n p few large is none one =
-    let part : Contains (filter (λ q. not (is_large q)) (parts_at f commute n (accesses f n))) p.small = subst (λ qs. Contains qs p.small) (sym one ∙ is) (contains_here p.small []) in
-    let b = map_contains (λ b. least (sources_after f commute n) [] (tied_by f commute n b)) (accesses f n) p.small (filter_contains (λ q. not (is_large q)) (parts_at f commute n (accesses f n)) p.small part).0 in
+    let part : Contains (filter (λ q. not (is_large f.format q)) (parts_at f commute n (accesses f n))) p.small = subst (λ qs. Contains qs p.small) (sym one ∙ is) (contains_here p.small []) in
+    let b = map_contains (λ b. least (sources_after f commute n) [] (tied_by f commute n b)) (accesses f n) p.small (filter_contains (λ q. not (is_large f.format q)) (parts_at f commute n (accesses f n)) p.small part).0 in
     let all : ℕ → Bool = λ i. list_any (λ a. accesses_tie f commute a b.0) (accesses f i) in
     let own : p.small ≡ least (sources_after f commute n) [] (filter (has p.small) (down_from n)) = subst (λ z. z ≡ least (sources_after f commute n) [] (filter (has z) (down_from n))) b.2 (sym (least_again (sources_after f commute n) all n [])) in
     parts_are f commute n p few (has p.small) large is (λ i. or_none (has p.small i) ∙ ap (list_any (λ q. has q i)) (sym one)) (own ∙ ap (λ qs. least (sources_after f commute n) (flat_map (λ q. q) qs) (filter (has p.small) (down_from n))) (sym none))

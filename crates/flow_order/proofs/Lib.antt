@@ -6,6 +6,7 @@ pub mod BitSteps
 pub mod RowSteps
 pub mod ShownSteps
 pub mod FlowSide
+pub mod Formats
 pub mod GraphSide
 pub mod Forward
 pub mod Simulation

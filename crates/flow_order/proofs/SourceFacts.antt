@@ -132,16 +132,16 @@ module _ (f : GraphValue) (commute : Bool) where
       tied_depends j b.0 i b.1 (least_in (table j) [] (tied_by f commute j b.0) i (subst (λ z. Contains z i) (sym b.2) d))
 
   abbrev pool : ℕ → List ℕ
-  pool j = filter (λ i. list_any (λ p. has p i) (filter (λ p. not (is_large p)) (parts j))) (down_from j)
+  pool j = filter (λ i. list_any (λ p. has p i) (filter (λ p. not (is_large f.format p)) (parts j))) (down_from j)
 
   -- a line depends on each of its sources
   pub sources_sound : (j i : ℕ) → Contains (sources_of j) i → depends f commute i j ≡ true
-  sources_sound j i c = elim (Contains-append_cases (least (table j) (flat_map (λ p. p) (filter is_large (parts j))) (pool j)) (flat_map (λ q. q) (filter is_large (parts j))) i c) [
+  sources_sound j i c = elim (Contains-append_cases (least (table j) (flat_map (λ p. p) (filter (is_large f.format) (parts j))) (pool j)) (flat_map (λ q. q) (filter (is_large f.format) (parts j))) i c) [
     | inl small ↦ (
-        let k = filter_contains (λ i. list_any (λ p. has p i) (filter (λ p. not (is_large p)) (parts j))) (down_from j) i (least_in (table j) _ (pool j) i small) in
-        let p = some_passes (λ p. has p i) (filter (λ p. not (is_large p)) (parts j)) k.1 in
-        part_depends j p.0 i (filter_contains (λ p. not (is_large p)) (parts j) p.0 p.1).0 (has_contains p.0 i p.2))
-    | inr large ↦ (let p = flat_in (filter is_large (parts j)) i large in part_depends j p.0 i (filter_contains is_large (parts j) p.0 p.1).0 p.2)
+        let k = filter_contains (λ i. list_any (λ p. has p i) (filter (λ p. not (is_large f.format p)) (parts j))) (down_from j) i (least_in (table j) _ (pool j) i small) in
+        let p = some_passes (λ p. has p i) (filter (λ p. not (is_large f.format p)) (parts j)) k.1 in
+        part_depends j p.0 i (filter_contains (λ p. not (is_large f.format p)) (parts j) p.0 p.1).0 (has_contains p.0 i p.2))
+    | inr large ↦ (let p = flat_in (filter (is_large f.format) (parts j)) i large in part_depends j p.0 i (filter_contains (is_large f.format) (parts j) p.0 p.1).0 p.2)
   ]
 
   -- what reaches a line has a chain to it
@@ -181,22 +181,22 @@ module _ (f : GraphValue) (commute : Bool) where
 
   -- a member of a part is a source, or has a chain to one
   part_reached : (j : ℕ) (p : List ℕ) (k : ℕ) → Contains (parts j) p → Contains p k → k < j → Reached j k
-  part_reached j p k c d below = elim (cases_Bool (is_large p)) [
+  part_reached j p k c d below = elim (cases_Bool (is_large f.format p)) [
     | inl big ↦ (
       k,
-      Contains-append_right (least (table j) (flat_map (λ p. p) (filter is_large (parts j))) (pool j)) (flat_map (λ q. q) (filter is_large (parts j))) k
-          (in_flat (filter is_large (parts j)) p k (contains_filter is_large (parts j) p c big) d),
+      Contains-append_right (least (table j) (flat_map (λ p. p) (filter (is_large f.format) (parts j))) (pool j)) (flat_map (λ q. q) (filter (is_large f.format) (parts j))) k
+          (in_flat (filter (is_large f.format) (parts j)) p k (contains_filter (is_large f.format) (parts j) p c big) d),
       inl refl,
     )
     | inr few ↦ (
-        let pooled : Contains (pool j) k = contains_filter (λ i. list_any (λ p. has p i) (filter (λ p. not (is_large p)) (parts j))) (down_from j) k (below_down j k below)
-        (passes_some (λ p. has p k) (filter (λ p. not (is_large p)) (parts j)) p (contains_filter (λ p. not (is_large p)) (parts j) p c (not_from_false (is_large p) few)) (contains_has p k d)) in
-        covered_reached j k (covered_more (table j) (flat_map (λ p. p) (filter is_large (parts j)) ++ least (table j) (flat_map (λ p. p) (filter is_large (parts j))) (pool j)) (sources_of j) k
-        (λ z e. elim (Contains-append_cases (flat_map (λ p. p) (filter is_large (parts j))) (least (table j) (flat_map (λ p. p) (filter is_large (parts j))) (pool j)) z e) [
-          | inl large ↦ Contains-append_right (least (table j) (flat_map (λ p. p) (filter is_large (parts j))) (pool j)) (flat_map (λ q. q) (filter is_large (parts j))) z large
-          | inr small ↦ Contains-append_left (least (table j) (flat_map (λ p. p) (filter is_large (parts j))) (pool j)) (flat_map (λ q. q) (filter is_large (parts j))) z small
+        let pooled : Contains (pool j) k = contains_filter (λ i. list_any (λ p. has p i) (filter (λ p. not (is_large f.format p)) (parts j))) (down_from j) k (below_down j k below)
+        (passes_some (λ p. has p k) (filter (λ p. not (is_large f.format p)) (parts j)) p (contains_filter (λ p. not (is_large f.format p)) (parts j) p c (not_from_false (is_large f.format p) few)) (contains_has p k d)) in
+        covered_reached j k (covered_more (table j) (flat_map (λ p. p) (filter (is_large f.format) (parts j)) ++ least (table j) (flat_map (λ p. p) (filter (is_large f.format) (parts j))) (pool j)) (sources_of j) k
+        (λ z e. elim (Contains-append_cases (flat_map (λ p. p) (filter (is_large f.format) (parts j))) (least (table j) (flat_map (λ p. p) (filter (is_large f.format) (parts j))) (pool j)) z e) [
+          | inl large ↦ Contains-append_right (least (table j) (flat_map (λ p. p) (filter (is_large f.format) (parts j))) (pool j)) (flat_map (λ q. q) (filter (is_large f.format) (parts j))) z large
+          | inr small ↦ Contains-append_left (least (table j) (flat_map (λ p. p) (filter (is_large f.format) (parts j))) (pool j)) (flat_map (λ q. q) (filter (is_large f.format) (parts j))) z small
         ])
-        (least_covers (table j) (flat_map (λ p. p) (filter is_large (parts j))) (pool j) k pooled)))
+        (least_covers (table j) (flat_map (λ p. p) (filter (is_large f.format) (parts j))) (pool j) k pooled)))
   ]
 
   -- each line that a line depends on is a source, or has a chain to one

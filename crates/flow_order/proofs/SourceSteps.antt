@@ -192,8 +192,8 @@ module _ (f : GraphValue) (commute : Bool) where
   parts_below t n [] i c = absurd (contains_none i c)
   parts_below t n (b ∷ bs) i c = kept_by t n b bs i (t (least (table n) [] (tied_by f commute n b))) c (parts_below t n bs i)
 
-  pub large_below : (n : ℕ) (bs : List Access) (i : ℕ) → Contains (flat_map (λ p. p) (filter is_large (parts_at f commute n bs))) i → i < n
-  large_below n bs i c = parts_below is_large n bs i c
+  pub large_below : (n : ℕ) (bs : List Access) (i : ℕ) → Contains (flat_map (λ p. p) (filter (is_large f.format) (parts_at f commute n bs))) i → i < n
+  large_below n bs i c = parts_below (is_large f.format) n bs i c
 
   -- the lines with some bits are those of some parts
   pub among : (bits : ℕ → Bool) (few : List (List ℕ)) (xs : List ℕ) → ((i : ℕ) → bits i ≡ list_any (λ p. has p i) few) → filter bits xs ≡ filter (λ i. list_any (λ p. has p i) few) xs
@@ -201,14 +201,14 @@ module _ (f : GraphValue) (commute : Bool) where
   among bits few (x ∷ xs) same = ap (λ b. cond b (x ∷ filter bits xs) (filter bits xs)) (same x) ∙ ap (λ ys. cond (list_any (λ p. has p x) few) (x ∷ ys) ys) (among bits few xs same)
 
   -- the parts of a line, large and small
-  pub parts_are : (n : ℕ) (p : Parts) (few : List (List ℕ)) (bits : ℕ → Bool) → p.large ≡ filter is_large (parts_at f commute n (accesses f n)) → few ≡ filter (λ q. not (is_large q)) (parts_at f commute n (accesses f n)) →
+  pub parts_are : (n : ℕ) (p : Parts) (few : List (List ℕ)) (bits : ℕ → Bool) → p.large ≡ filter (is_large f.format) (parts_at f commute n (accesses f n)) → few ≡ filter (λ q. not (is_large f.format q)) (parts_at f commute n (accesses f n)) →
       ((i : ℕ) → bits i ≡ list_any (λ q. has q i) few) → p.small ≡ least (table n) (flat_map (λ q. q) p.large) (filter bits (down_from n)) → p ≡ parts_of f commute (table n) n
   parts_are n p few bits large is same small =
       let make : List (List ℕ) → List ℕ → Parts = λ xs ys. record { large = xs; small = ys } in
       let ps = parts_at f commute n (accesses f n) in
       ap (λ xs. make xs p.small) large
-      ∙ ap (make (filter is_large ps)) (small ∙ (ap (λ xs. least (table n) (flat_map (λ q. q) xs) (filter bits (down_from n))) large
-      ∙ ap (least (table n) (flat_map (λ q. q) (filter is_large ps))) (among bits few (down_from n) same ∙ ap (λ qs. filter (λ i. list_any (λ q. has q i) qs) (down_from n)) is)))
+      ∙ ap (make (filter (is_large f.format) ps)) (small ∙ (ap (λ xs. least (table n) (flat_map (λ q. q) xs) (filter bits (down_from n))) large
+      ∙ ap (least (table n) (flat_map (λ q. q) (filter (is_large f.format) ps))) (among bits few (down_from n) same ∙ ap (λ qs. filter (λ i. list_any (λ q. has q i) qs) (down_from n)) is)))
 
   pub source_below : (n i : ℕ) → Contains (sources_of f commute n) i → i < n
   source_below n i c = depends_below f commute i n (sources_sound f commute n i c)

@@ -1,6 +1,5 @@
--- What a flow is: declarations and lines as in a graph, each of which uses columns and waits for nothing.
+-- What a flow is: declarations and lines as in a graph of some format, each of which uses columns and waits for nothing.
 use Rattle.std.specs.Prelude.{◌≡◌, ℕ, Bool, true, false, [], IsTrue, Some, slice_get}
-use Rattle.graph_terms.specs.declared.format.Format.TheVariants.{One}
 use Rattle.graph_terms.specs.declared.verb.Line.{Line}
 use Rattle.graph_terms.specs.declared.verb.Verb.{Verb}
 use Rattle.graph_terms.specs.declared.verb.Verb.TheVariants.{Fill, Copy, Reduce, Task}
@@ -17,6 +16,5 @@ uses_columns _ = false
 
 pub record IsFlow (f : GraphValue) : Type 0 where
   pub fits : IsGraph f
-  pub one : f.format ≡ One
   pub uses : (i : ℕ) (l : Line) → slice_get f.lines i ≡ Some l → IsTrue (uses_columns l.verb)
   pub waits : (i : ℕ) (l : Line) → slice_get f.lines i ≡ Some l → l.on ≡ []

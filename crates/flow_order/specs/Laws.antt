@@ -1,8 +1,9 @@
 -- What holds of graphs whose edges all lead forward.
-use Rattle.std.specs.Prelude.{◌≡◌, ℕ, ◌<◌, ◌⊎◌, Bool, IsTrue, [], length, Contains, slice_index_or}
+use Rattle.std.specs.Prelude.{◌≡◌, ℕ, ◌<◌, ◌⊎◌, ◌↔◌, Bool, IsTrue, [], length, Contains, slice_index_or}
 use Rattle.basics.specs.Lists.{numbers_below}
+use Rattle.graph_terms.specs.declared.format.Format.{Format}
 use Rattle.graph_terms.specs.declared.verb.Edge.{Edge}
-use Rattle.graph_terms.specs.Graph.{GraphValue}
+use Rattle.graph_terms.specs.Graph.{GraphValue, written_in}
 use Rattle.graph_terms.specs.Edges.{edges}
 use Rattle.graph_meaning.specs.Path.{HasPath}
 use Rattle.graph_meaning.specs.Rules.{NoCycleAt, Everywhere, Accepted}
@@ -44,6 +45,13 @@ AcceptedByOrder = (f : GraphValue) (commute : Bool) (g : GraphValue) (place : �
 abbrev pub MeansBySources : Type 0
 MeansBySources = (f : GraphValue) (commute : Bool) (g : GraphValue) (place : ℕ → ℕ) → IsFlow f → IsGraph g → Keeps f g place → SourcesStand f commute g place → SectionsStand f commute g place →
     MeansFlow f commute g
+
+-- a flow means the same in each format: how its lines end, which cells they leave, and which lines have a chain to which
+abbrev pub FlowInEachFormat : Type 0
+FlowInEachFormat = (h : Format) (f : GraphValue) (commute : Bool) →
+    ((i : ℕ) → flow_end (written_in h f) commute i ≡ flow_end f commute i)
+    × ((c p : ℕ) → flow_cells (written_in h f) commute c p ≡ flow_cells f commute c p)
+    × ((i j : ℕ) → Chain (written_in h f) commute i j ↔ Chain f commute i j)
 
 -- of the sources that the construction gives a line, and of the lines that it depends on: it depends on each source, and each line that it depends on is a source or has a chain to one
 abbrev pub SourcesTie : Type 0

@@ -1,6 +1,9 @@
 -- The sources of each line of a flow, in parts.
 use Rattle.std.specs.Prelude.{ℕ, zero, suc, ◌+◌, ◌==◌, Bool, false, cond, not, ◌||◌, nat_le, List, [], ◌∷◌, ◌++◌, length, map, filter, flat_map, slice_index_or}
 use Rattle.std.specs.List.{list_any}
+use Rattle.graph_terms.specs.declared.format.Format.{Format}
+use Rattle.graph_terms.specs.declared.format.Format.TheVariants.{Three}
+use Rattle.graph_terms.specs.declared.limits.TheConstants.{MAX_EVENTS_OF_THREE}
 use Rattle.graph_terms.specs.declared.verb.Access.{Access}
 use Rattle.graph_terms.specs.Graph.{GraphValue}
 use Rattle.graph_terms.specs.Access.{accesses}
@@ -37,17 +40,22 @@ pub record Parts : Type 0 where
 abbrev pub has : List ℕ → ℕ → Bool
 has ks i = list_any (λ k. k == i) ks
 
-abbrev pub is_large : List ℕ → Bool
-is_large p = nat_le 8 (length p)
+-- from so many lines on a part stays whole, so that lines share a merge of it: in format 3 where a line names fewer behind its `on`
+abbrev pub large_from : Format → ℕ
+large_from Three = suc MAX_EVENTS_OF_THREE
+large_from _ = 8
 
-abbrev pub parts_from : List (List ℕ) → ℕ → List (List ℕ) → Parts
-parts_from sources j ps = record {
-  large = filter is_large ps;
-  small = least sources (flat_map (λ p. p) (filter is_large ps)) (filter (λ i. list_any (λ p. has p i) (filter (λ p. not (is_large p)) ps)) (down_from j));
+abbrev pub is_large : Format → List ℕ → Bool
+is_large fm p = nat_le (large_from fm) (length p)
+
+abbrev pub parts_from : Format → List (List ℕ) → ℕ → List (List ℕ) → Parts
+parts_from fm sources j ps = record {
+  large = filter (is_large fm) ps;
+  small = least sources (flat_map (λ p. p) (filter (is_large fm) ps)) (filter (λ i. list_any (λ p. has p i) (filter (λ p. not (is_large fm p)) ps)) (down_from j));
 }
 
 abbrev pub parts_of : GraphValue → Bool → List (List ℕ) → ℕ → Parts
-parts_of f commute sources j = parts_from sources j (map (λ b. least sources [] (tied_by f commute j b)) (accesses f j))
+parts_of f commute sources j = parts_from f.format sources j (map (λ b. least sources [] (tied_by f commute j b)) (accesses f j))
 
 abbrev pub all_of : Parts → List ℕ
 all_of p = p.small ++ flat_map (λ q. q) p.large

@@ -1,6 +1,6 @@
 //! What holds of flows, and of graphs whose edges all lead forward, for callers to cite. No function here does anything.
 
-ghost use Rattle.flow_order.specs.Laws.{EdgesLeadForward, PathsLeadForward, ForwardHasNoCycle, EndsInFileOrder, MeansByOrder, AcceptedByOrder, MeansBySources, SourcesTie};
+ghost use Rattle.flow_order.specs.Laws.{EdgesLeadForward, PathsLeadForward, ForwardHasNoCycle, EndsInFileOrder, MeansByOrder, AcceptedByOrder, MeansBySources, FlowInEachFormat, SourcesTie};
 
 use index_spaces::laws::points_are_listed;
 
@@ -43,6 +43,11 @@ pub fn means_by_sources()
 {
     points_are_listed();
 }
+
+/// A flow means the same in each format.
+pub fn flow_in_each_format()
+    ensures { FlowInEachFormat }
+{}
 
 /// A line depends on each of its sources, and each line that it depends on is one of them or has a
 /// chain to one.

@@ -5,14 +5,15 @@ ghost use Rattle.graph_terms.specs.Access.{accesses};
 ghost use Rattle.flow_order.specs.Bits.{word_bit};
 ghost use Rattle.std.specs.List.{list_any};
 ghost use Rattle.flow_order.specs.Rows.{AreRows, IsKept, parts_at, words_for};
-ghost use Rattle.flow_order.specs.SourceParts.{down_from, tied_by, has, is_large, is_reached, least, parts_of, sources_after};
+ghost use Rattle.flow_order.specs.SourceParts.{down_from, tied_by, has, is_large, is_reached, large_from, least, parts_of, sources_after};
 
 use crate::bits::Bits;
 use crate::row::Row;
 use crate::rows::Rows;
 use graph_meaning::line_laws::{accesses_are_few, accesses_fit};
 use graph_model::graph::Graph;
-use graph_terms::limits::MOST_ACCESSES;
+use graph_terms::format::Format;
+use graph_terms::limits::{MAX_EVENTS_OF_THREE, MOST_ACCESSES};
 use graph_terms::lists::LineList;
 use graph_terms::verb::Access;
 use index_spaces::NoMemory;
@@ -20,7 +21,7 @@ use index_spaces::room::push;
 use std::alloc::Global;
 use std::marker::Model;
 
-/// From so many lines on a part stays whole, so that lines share it.
+/// From so many lines on a part stays whole in formats 1 and 2, so that lines share it.
 const LARGE: u32 = 8;
 
 /// The sources of a line: large parts, which lines share, and the others.
@@ -84,8 +85,8 @@ fn parts_by_access(
 ) -> Result<(Vec<LineList>, Vec<LineList>), NoMemory>
     requires rows { IsKept flow.now commute rows.now }
     requires next { length rows.now.rows.items < length flow.now.lines }
-    ensures large { IfOk result (λ r. r.0.items ≡ filter is_large (parts_at flow.now commute (length rows.now.rows.items) (accesses flow.now (length rows.now.rows.items)))) }
-    ensures few { IfOk result (λ r. r.1.items ≡ filter (λ p. not (is_large p)) (parts_at flow.now commute (length rows.now.rows.items) (accesses flow.now (length rows.now.rows.items)))) }
+    ensures large { IfOk result (λ r. r.0.items ≡ filter (is_large flow.now.format) (parts_at flow.now commute (length rows.now.rows.items) (accesses flow.now (length rows.now.rows.items)))) }
+    ensures few { IfOk result (λ r. r.1.items ≡ filter (λ p. not (is_large flow.now.format p)) (parts_at flow.now commute (length rows.now.rows.items) (accesses flow.now (length rows.now.rows.items)))) }
 {
     accesses_fit();
     accesses_are_few();
@@ -99,21 +100,33 @@ fn parts_by_access(
         };
         let asked = rows.asked_by(alloc, flow, commute, access)?;
         let part = least(alloc, flow, commute, rows, &[], &asked)?;
-        keep_part(&mut large, &mut few, part)?;
+        keep_part(flow.format(), &mut large, &mut few, part)?;
     }
     Ok((large, few))
 }
 
+/// From so many lines on a part stays whole in a format: in format 3 where a line names fewer behind
+/// its `on`.
+fn large_from(format: Format) -> u32
+    ensures { result ≡ large_from format }
+{
+    match format {
+        Format::One | Format::Two => LARGE,
+        Format::Three => MAX_EVENTS_OF_THREE + 1,
+    }
+}
+
 /// Puts a part at the end of the large ones, or of the others.
 fn keep_part(
+    format: Format,
     large: &mut Vec<LineList>,
     few: &mut Vec<LineList>,
     part: LineList,
 ) -> Result<(), NoMemory>
-    ensures large { OnOk result (large.new.items ≡ cond (is_large part) (large.old.items ++ part ∷ []) large.old.items) }
-    ensures few { OnOk result (few.new.items ≡ cond (is_large part) few.old.items (few.old.items ++ part ∷ [])) }
+    ensures large { OnOk result (large.new.items ≡ cond (is_large format part) (large.old.items ++ part ∷ []) large.old.items) }
+    ensures few { OnOk result (few.new.items ≡ cond (is_large format part) few.old.items (few.old.items ++ part ∷ [])) }
 {
-    if part.len() >= LARGE {
+    if part.len() >= large_from(format) {
         push(large, part)
     } else {
         push(few, part)

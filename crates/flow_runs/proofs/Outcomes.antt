@@ -11,11 +11,13 @@ use Rattle.basics.specs.Lists.{numbers_below}
 use Rattle.index_spaces.specs.Space.{points}
 use Rattle.realm_io.specs.SinkState.{SinkState}
 use Rattle.graph_terms.specs.declared.decl.Decl.{Decl}
-use Rattle.graph_terms.specs.Graph.{GraphValue, space_of, columns_of, named_spaces, columns, column_space}
+use Rattle.graph_terms.specs.declared.format.Format.{Format}
+use Rattle.graph_terms.specs.Graph.{GraphValue, written_in, space_of, columns_of, named_spaces, columns, column_space}
 use Rattle.graph_meaning.specs.Evaluation.{order, outcome, column_of, evaluation, cells_of, eval_end}
 use Rattle.graph_reader.specs.Laws.{OneReading}
 use Rattle.command_line.specs.declared.request.Action.TheVariants.{Run, Eval}
 use Rattle.command_line.specs.declared.request.Request.{Request}
+use Rattle.flow_order.specs.Laws.{FlowInEachFormat}
 use Rattle.flow_order.specs.Meaning.{flow_cells}
 use Rattle.task_flow.specs.Construction.{written}
 use Rattle.flow_order.specs.Written.{IsLock, Keeps, MeansFlow}
@@ -69,14 +71,20 @@ get_at h n i b = (let l : i < length (map h (range_with_len 0 n)) = subst (λ m.
 place_within : (f g : GraphValue) (place : ℕ → ℕ) → Keeps f g place → (i : ℕ) → i < length f.lines → place i < length g.lines
 place_within f g place k i h = (let l = got f.lines i h in let m = k.line i l.0 l.1 in slice_get_within g.lines (place i) m.0 m.1)
 
-pub is_outcome : (f : GraphValue) (commute : Bool) (g : GraphValue) → MeansFlow f commute g → IsFlowOutcome f commute g (outcome g (order g))
-is_outcome f commute g m = record {
-  place = m.place;
-  keeps = m.keeps;
-  ends = λ i h. get_at (eval_end g) (length g.lines) (m.place i) (place_within f g m.place m.keeps i h) ∙ ap Some (m.ends i h);
-  columns_are = map_same (column_of g (cells_of (evaluation g))) (column_of f (flow_cells f commute)) (numbers_below (length (columns g))) (column_same f commute g m)
-      ∙ ap (λ cs. map (column_of f (flow_cells f commute)) (numbers_below (length cs))) (columns_same f g m.place m.keeps);
-}
+-- the cells of a flow in another format are those of the flow
+column_as_read : FlowInEachFormat → (fm : Format) (f : GraphValue) (commute : Bool) (c : ℕ) → column_of (written_in fm f) (flow_cells (written_in fm f) commute) c ≡ column_of f (flow_cells f commute) c
+column_as_read law fm f commute c = ap (λ cs. record { space = column_space f c; cells = cs }) (map_same (flow_cells (written_in fm f) commute c) (flow_cells f commute c) (points (column_space f c)) (λ p. (law fm f commute).1 c p))
+
+pub is_outcome : FlowInEachFormat → (fm : Format) (f : GraphValue) (commute : Bool) (g : GraphValue) → MeansFlow (written_in fm f) commute g → IsFlowOutcome f commute g (outcome g (order g))
+is_outcome law fm f commute g m =
+    let h : GraphValue = written_in fm f in
+    record {
+      place = m.place;
+      keeps = subst (λ x. Keeps (written_in x f) g m.place) (sym m.keeps.format) m.keeps;
+      ends = λ i b. get_at (eval_end g) (length g.lines) (m.place i) (place_within h g m.place m.keeps i b) ∙ ap Some (m.ends i b ∙ (law fm f commute).0 i);
+      columns_are = map_same (column_of g (cells_of (evaluation g))) (column_of f (flow_cells f commute)) (numbers_below (length (columns g))) (λ c. column_same h commute g m c ∙ column_as_read law fm f commute c)
+          ∙ ap (λ cs. map (column_of f (flow_cells f commute)) (numbers_below (length cs))) (columns_same h g m.place m.keeps);
+    }
 
 -- what `run` and `eval` say of an accepted graph is its report with some trace
 reported : (request : Request) (g : GraphValue) (need : ℕ) (out : List ℕ) → (request.action ≡ Run) ⊎ (request.action ≡ Eval) → Says request.action request g need out →
@@ -84,17 +92,17 @@ reported : (request : Request) (g : GraphValue) (need : ℕ) (out : List ℕ) �
 reported request g need out (inl e) s = (let r = subst (λ a. Says a request g need out) e s in (r.0, r.2))
 reported request g need out (inr e) s = (order g, subst (λ a. Says a request g need out) e s)
 
-pub ran : ((bs : List ℕ) → OneReading bs) → (bytes : List ℕ) (commute : Bool) (text : List ℕ) → IsFlowAnswer bytes commute text → (request : Request) → (request.action ≡ Run) ⊎ (request.action ≡ Eval) →
+pub ran : ((bs : List ℕ) → OneReading bs) → FlowInEachFormat → (bytes : List ℕ) (commute : Bool) (format : Format) (text : List ℕ) → IsFlowAnswer bytes commute format text → (request : Request) → (request.action ≡ Run) ⊎ (request.action ≡ Eval) →
     (old new : SinkState) → IsDone request text old new → RanFlow bytes commute text request.trace old new
-ran reads bytes commute text a request act old new d =
-    let same = (reads text).one_graph (written a.flow commute) d.graph a.out_is d.text in
+ran reads law bytes commute format text a request act old new d =
+    let same = (reads text).one_graph (written (written_in format a.flow) commute) d.graph a.out_is d.text in
     let r = reported request d.graph d.need d.out act d.says in
     record {
       flow = a.flow;
       is_text = a.is_text;
       graph = d.graph;
       graph_text = d.text;
-      is_outcome = is_outcome a.flow commute d.graph (subst (λ (w : GraphValue). MeansFlow a.flow commute w) same a.means);
+      is_outcome = is_outcome law format a.flow commute d.graph (subst (λ (w : GraphValue). MeansFlow (written_in format a.flow) commute w) same a.means);
       trace = r.0;
       delivered = subst (Delivered old new) r.1 d.delivered;
     }

@@ -3,7 +3,8 @@ use Rattle.std.specs.Prelude.{◌≡◌, ◌⊎◌, ℕ, ◌<◌, Bool, List, le
 use Rattle.basics.specs.Lists.{numbers_below}
 use Rattle.realm_io.specs.SinkState.{SinkState}
 use Rattle.graph_terms.specs.declared.outcome.Outcome.{Outcome}
-use Rattle.graph_terms.specs.Graph.{GraphValue, columns}
+use Rattle.graph_terms.specs.declared.format.Format.{Format}
+use Rattle.graph_terms.specs.Graph.{GraphValue, written_in, columns}
 use Rattle.graph_meaning.specs.Evaluation.{order, outcome, column_of}
 use Rattle.graph_words.specs.Text.{GraphText}
 use Rattle.command_line.specs.declared.request.Action.TheVariants.{Run, Eval}
@@ -15,10 +16,10 @@ use Rattle.flow_top.specs.Answer.{IsFlowAnswer}
 use Rattle.program_io.specs.Delivered.{Delivered}
 use Rattle.graph_answers.specs.Answer.{report_with, IsDone}
 
--- an outcome of a graph that keeps the lines of a flow: each of these ended, and each column has the cells, as the flow means where sums commute or not
+-- an outcome of a graph that keeps the lines of a flow, in whatever format: each of these ended, and each column has the cells, as the flow means where sums commute or not
 pub record IsFlowOutcome (f : GraphValue) (commute : Bool) (g : GraphValue) (o : Outcome) : Type 0 where
   pub place : ℕ → ℕ
-  pub keeps : Keeps f g place
+  pub keeps : Keeps (written_in g.format f) g place
   pub ends : (i : ℕ) → i < length f.lines → slice_get o.ends (place i) ≡ Some (flow_end f commute i)
   pub columns_are : o.columns ≡ map (column_of f (flow_cells f commute)) (numbers_below (length (columns f)))
 
@@ -33,5 +34,5 @@ pub record RanFlow (bytes : List ℕ) (commute : Bool) (text : List ℕ) (traced
   pub delivered : Delivered old new (report_with traced graph trace)
 
 abbrev pub RunsMeanFlows : Type 0
-RunsMeanFlows = (bytes : List ℕ) (commute : Bool) (text : List ℕ) → IsFlowAnswer bytes commute text → (request : Request) → (request.action ≡ Run) ⊎ (request.action ≡ Eval) →
+RunsMeanFlows = (bytes : List ℕ) (commute : Bool) (format : Format) (text : List ℕ) → IsFlowAnswer bytes commute format text → (request : Request) → (request.action ≡ Run) ⊎ (request.action ≡ Eval) →
     (old new : SinkState) → IsDone request text old new → RanFlow bytes commute text request.trace old new

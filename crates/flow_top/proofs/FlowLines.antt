@@ -4,7 +4,8 @@ use Rattle.std.specs.Prelude.{◌==◌, slice_index, nat_lt, IsTrue}
 use Rattle.std.proofs.lemmas.Bool.{true≢false, and_parts, eqb-true}
 use Rattle.graph_terms.specs.declared.format.Format.{Format}
 use Rattle.graph_terms.specs.declared.format.Format.TheVariants.{One, Two, Three}
-use Rattle.graph_terms.specs.Graph.{GraphValue}
+use Rattle.graph_terms.specs.Limits.{limits}
+use Rattle.graph_terms.specs.Graph.{GraphValue, written_in}
 use Rattle.graph_terms.specs.Spelling.{header, decls_text, lines_text}
 use Rattle.graph_terms.specs.Fits.{IsGraph}
 use Rattle.graph_comments.specs.Comments.{bare_text}
@@ -34,13 +35,12 @@ no_more false = refl
 pub bare_is : (rest : List ℕ) → bare_of (header One ++ rest) ≡ header One ++ rest
 bare_is rest = ap (λ b. cond b (bare_text (header One ++ rest)) (header One ++ rest)) (no_more (nat_lt (length (header One ++ rest)) 4294967295))
 
-one_of : (rest : List ℕ) (g : GraphValue) → GraphText (header One ++ rest) g → g.format ≡ One
+pub one_of : (rest : List ℕ) (g : GraphValue) → GraphText (header One ++ rest) g → g.format ≡ One
 one_of rest g t = one_by g.format rest ((decls_text g.format [] g.decls ++ lines_text g.format g.decls [] g.lines) ++ closing) (sym (bare_is rest) ∙ (t.is_text ∙ append_assoc (header g.format) (decls_text g.format [] g.decls ++ lines_text g.format g.decls [] g.lines) closing))
 
 pub flow_of : (rest : List ℕ) (g : GraphValue) → GraphText (header One ++ rest) g → AreFlowLines g → IsFlow g
 flow_of rest g t lines = record {
   fits = t.is_graph;
-  one = one_of rest g t;
   uses = λ i l at. true_is (uses_columns l.verb) (and_parts (uses_columns l.verb) (length l.on == 0) (lines i l at)).0;
   waits = λ i l at. none_is l.on (and_parts (uses_columns l.verb) (length l.on == 0) (lines i l at)).1;
 }
@@ -52,9 +52,17 @@ flow_text bytes rest g begins t lines = record { rest = rest; begins = begins; i
 bare_text_of : (bytes : List ℕ) (g : GraphValue) → IsGraph g → bytes ≡ text g → bare_of bytes ≡ bytes
 bare_text_of bytes g fits is = ap (λ xs. bare_of xs) is ∙ (texts_are_bare g fits ∙ sym is)
 
-pub graph_text_of : (bytes : List ℕ) (g : GraphValue) → IsGraph g → bytes ≡ text g → length bytes ≤ 1048576 → GraphText bytes g
+pub graph_text_of : (bytes : List ℕ) (g : GraphValue) → IsGraph g → bytes ≡ text g → length bytes ≤ (limits g.format).text → GraphText bytes g
 graph_text_of bytes g fits is short = record {
   is_text = bare_text_of bytes g fits is ∙ is;
-  short = subst (λ (xs : List ℕ). length xs ≤ 1048576) (sym (bare_text_of bytes g fits is)) short;
+  short = subst (λ (xs : List ℕ). length xs ≤ (limits g.format).text) (sym (bare_text_of bytes g fits is)) short;
   is_graph = fits;
 }
+
+-- a flow in another format
+pub flow_in : (fm : Format) (f : GraphValue) → IsFlow f → IsGraph (written_in fm f) → IsFlow (written_in fm f)
+flow_in fm f flow fits = record { fits = fits; uses = flow.uses; waits = flow.waits }
+
+-- a graph in its own format
+pub own_format : (fm : Format) (f : GraphValue) → f.format ≡ fm → f ≡ written_in fm f
+own_format fm f is = ap (λ x. written_in x f) is

@@ -4,6 +4,7 @@ use Rattle.realm_io.specs.SinkState.{SinkState}
 use Rattle.program_io.specs.Delivered as program
 use Rattle.program_io.specs.Delivered.{too_long_text}
 use Rattle.graph_terms.specs.declared.limits.TheConstants.{MAX_TEXT}
+use Rattle.graph_terms.specs.declared.format.Format.{Format}
 use Rattle.graph_terms.specs.declared.why.Why.{Why}
 use Rattle.graph_terms.specs.Spelling.{why_word}
 use Rattle.flow_top.specs.Answer.{IsFlowAnswer, IsAnswerFault}
@@ -25,16 +26,16 @@ abbrev pub refused_text : ℕ → Why → List ℕ
 refused_text number why = codes "refused line " ++ (decimal number ++ (codes " " ++ (why_word why ++ (10 ∷ []))))
 
 -- the text that goes with a status
-abbrev pub FlowAnswers : List ℕ → Bool → FlowStatus → List ℕ → Type 0
-FlowAnswers bytes commute Done out = (length bytes ≤ MAX_TEXT) × IsFlowAnswer bytes commute out
-FlowAnswers bytes commute Unread out = (length bytes ≤ MAX_TEXT) × (number : ℕ) × (why : Why) × IsAnswerFault bytes commute (fault.Line number why) × (out ≡ refused_text number why)
-FlowAnswers bytes commute TooLong out = (MAX_TEXT < length bytes) × (out ≡ too_long_text)
-FlowAnswers bytes commute _ out = ⊥
+abbrev pub FlowAnswers : List ℕ → Bool → Format → FlowStatus → List ℕ → Type 0
+FlowAnswers bytes commute format Done out = (length bytes ≤ MAX_TEXT) × IsFlowAnswer bytes commute format out
+FlowAnswers bytes commute format Unread out = (length bytes ≤ MAX_TEXT) × (number : ℕ) × (why : Why) × IsAnswerFault bytes commute format (fault.Line number why) × (out ≡ refused_text number why)
+FlowAnswers bytes commute format TooLong out = (MAX_TEXT < length bytes) × (out ≡ too_long_text)
+FlowAnswers bytes commute format _ out = ⊥
 
 -- a text that goes with a status was delivered, or a fault broke it off
 abbrev pub Delivers : SinkState → SinkState → FlowStatus → FlowStatus → List ℕ → Type 0
 Delivers old new wanted result out = program.Delivers WriteFault old new wanted result out
 
 -- an answer was given for these bytes, unless memory ran out or a read failed
-abbrev pub IsServed : List ℕ → Bool → SinkState → SinkState → FlowStatus → Type 0
-IsServed bytes commute old new result = (result ≡ NoMemory) ⊎ ((result ≡ ReadFault) ⊎ ((wanted : FlowStatus) × (out : List ℕ) × FlowAnswers bytes commute wanted out × Delivers old new wanted result out))
+abbrev pub IsServed : List ℕ → Bool → Format → SinkState → SinkState → FlowStatus → Type 0
+IsServed bytes commute format old new result = (result ≡ NoMemory) ⊎ ((result ≡ ReadFault) ⊎ ((wanted : FlowStatus) × (out : List ℕ) × FlowAnswers bytes commute format wanted out × Delivers old new wanted result out))

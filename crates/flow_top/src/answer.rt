@@ -1,7 +1,8 @@
 //! From the text of a flow to that of its graph.
 
 ghost use Rattle.std.specs.Prelude.{◌≡◌, ◌+◌, ◌<◌, ◌^◌, IfOk, IfErr, length, nat_lt};
-ghost use Rattle.graph_terms.specs.declared.limits.TheConstants.{MAX_TEXT as most_bytes};
+ghost use Rattle.graph_terms.specs.Limits.{limits};
+ghost use Rattle.graph_terms.specs.Graph.{written_in};
 ghost use Rattle.graph_terms.specs.Fits.{IsGraph};
 ghost use Rattle.graph_words.specs.Text.{GraphText};
 ghost use Rattle.flow_order.specs.Flow.{IsFlow};
@@ -11,26 +12,48 @@ use crate::FlowFault;
 use crate::reading::read_flow;
 use crate::writing::graph_text;
 use graph_model::graph::Graph;
-use graph_terms::limits::MAX_TEXT;
+use graph_terms::format::Format;
+use graph_terms::limits::Limits;
 use graph_terms::why::Why;
 use std::alloc::Global;
 use task_flow::{FlowRefusal, make_graph};
 
-/// The text of the graph of the flow whose text the bytes are; `commute` says whether sums into one
-/// cell may go in either order. `Line` comes where the bytes are no flow's text; with `Limit` also
+/// The text of the graph, in a format, of the flow whose text the bytes are; `commute` says whether
+/// sums into one cell may go in either order. `Line` comes where the bytes are no flow's text; with `Limit` also
 /// where the graph passes a limit, at the line of the flow with which it does, and where only its
 /// closing line makes the graph's text too long, at the closing line of the flow.
-pub fn answer_flow(alloc: Global, bytes: &[u8], commute: bool) -> Result<Vec<u8>, FlowFault>
-    ensures answer { IfOk result (λ v. IsFlowAnswer bytes.now commute v.items) }
-    ensures refusal { IfErr result (λ e. IsAnswerFault bytes.now commute e) }
+pub fn answer_flow(
+    alloc: Global,
+    bytes: &[u8],
+    commute: bool,
+    format: Format,
+) -> Result<Vec<u8>, FlowFault>
+    ensures answer { IfOk result (λ v. IsFlowAnswer bytes.now commute format v.items) }
+    ensures refusal { IfErr result (λ e. IsAnswerFault bytes.now commute format e) }
 {
     match read_flow(alloc, bytes) {
-        Ok(flow) => answer_read(alloc, &flow, commute),
+        Ok(flow) => {
+            let later = in_format(flow, format);
+            let _ = later.lines();
+            answer_read(alloc, &later, commute)
+        }
         Err(fault) => Err(fault),
     }
 }
 
-/// The text of the graph of a flow.
+/// A flow of format 1 in a format.
+fn in_format(flow: Graph, format: Format) -> Graph
+    requires { flow.format ≡ Format.One }
+    ensures { result ≡ written_in format flow }
+{
+    match format {
+        Format::One => flow,
+        Format::Two => flow.upgrade(),
+        Format::Three => flow.write_in_three(),
+    }
+}
+
+/// The text of the graph of a flow, in the flow's format.
 fn answer_read(alloc: Global, flow: &Graph, commute: bool) -> Result<Vec<u8>, FlowFault>
     requires flow { IsFlow flow.now }
     requires few { length flow.now.decls + length flow.now.lines + 2 < 2 ^ 32 }
@@ -51,7 +74,7 @@ fn text_within(alloc: Global, graph: &Graph, end: u32) -> Result<Vec<u8>, FlowFa
     ensures refusal { IfErr result (IsTooLong graph.now end) }
 {
     let text = graph_text(alloc, graph)?;
-    if is_too_long(text.as_slice()) {
+    if is_too_long(graph.format(), text.as_slice()) {
         return Err(at_limit(end));
     }
     Ok(text)
@@ -75,9 +98,9 @@ fn number_in_text(decls: u32, line: u32) -> u32
     decls + line + 2
 }
 
-/// Whether the text of a graph may not be so long.
-fn is_too_long(text: &[u8]) -> bool
-    ensures { result ≡ nat_lt most_bytes (length text.now) }
+/// Whether the text of a graph of a format may not be so long.
+fn is_too_long(format: Format, text: &[u8]) -> bool
+    ensures { result ≡ nat_lt (limits format).text (length text.now) }
 {
-    text.len() as u64 > MAX_TEXT
+    text.len() as u64 > Limits::of(format).text
 }

@@ -10,6 +10,7 @@ ghost use Rattle.std.specs.String.{string_bytes};
 use crate::FlowFault;
 use crate::answer::answer_flow;
 use crate::status::FlowStatus;
+use graph_terms::format::Format;
 use graph_terms::limits::MAX_TEXT;
 use graph_terms::why::Why;
 use index_spaces::NoMemory;
@@ -17,18 +18,19 @@ use program_io::{put_text, put_too_long};
 use realm_io::{ReadEnd, Sink, Source, read_all};
 use std::alloc::Global;
 
-/// Reads the text of a flow and writes that of its graph, in which sums commute or not. Where there
-/// is none it writes the one line that says why. Nothing of a graph is written before the whole graph is made.
+/// Reads the text of a flow and writes that of its graph in a format, in which sums commute or not.
+/// Where there is none it writes the one line that says why. Nothing of a graph is written before the whole graph is made.
 pub fn serve_flow<S: Source, K: Sink>(
     alloc: Global,
     source: &mut S,
     sink: &mut K,
     commute: bool,
+    format: Format,
 ) -> FlowStatus
     // What was left of the source is the text of a flow, and that of its graph, which means it, was
     // written and flushed; or the line with the first reason that refuses it; or a fault of writing
     // broke that off.
-    ensures served { IfSome (S.left source.old) (λ bytes. IsServed bytes commute (K.state sink.old) (K.state sink.new) result) }
+    ensures served { IfSome (S.left source.old) (λ bytes. IsServed bytes commute format (K.state sink.old) (K.state sink.new) result) }
 
     // Done: all of the input was read.
     ensures at_end { result ≡ FlowStatus.Done → IsAtEnd (S.left source.new) }
@@ -40,7 +42,7 @@ pub fn serve_flow<S: Source, K: Sink>(
     ensures no_memory { result ≡ FlowStatus.NoMemory → sink.new ≡ sink.old }
 {
     match read_all(alloc, source, MAX_TEXT as u32) {
-        Ok(bytes) => serve_bytes(alloc, bytes.as_slice(), sink, commute),
+        Ok(bytes) => serve_bytes(alloc, bytes.as_slice(), sink, commute, format),
         Err(ReadEnd::TooLong) => put_too_long(sink, FlowStatus::TooLong),
         Err(ReadEnd::ReadFault) => FlowStatus::ReadFault,
         Err(ReadEnd::NoMemory) => FlowStatus::NoMemory,
@@ -48,13 +50,19 @@ pub fn serve_flow<S: Source, K: Sink>(
 }
 
 /// Answers the bytes of a flow.
-fn serve_bytes<K: Sink>(alloc: Global, bytes: &[u8], sink: &mut K, commute: bool) -> FlowStatus
+fn serve_bytes<K: Sink>(
+    alloc: Global,
+    bytes: &[u8],
+    sink: &mut K,
+    commute: bool,
+    format: Format,
+) -> FlowStatus
     requires { length bytes.now ≤ most_bytes }
-    ensures served { IsServed bytes.now commute (K.state sink.old) (K.state sink.new) result }
+    ensures served { IsServed bytes.now commute format (K.state sink.old) (K.state sink.new) result }
     ensures read_fault { result ≡ FlowStatus.ReadFault → ⊥ }
     ensures no_memory { result ≡ FlowStatus.NoMemory → sink.new ≡ sink.old }
 {
-    match answer_flow(alloc, bytes, commute) {
+    match answer_flow(alloc, bytes, commute, format) {
         Ok(text) => put_text(sink, text.as_slice(), FlowStatus::Done),
         Err(FlowFault::Line { number, why }) => match refused_text(alloc, number, why) {
             Ok(text) => put_text(sink, text.as_bytes(), FlowStatus::Unread),

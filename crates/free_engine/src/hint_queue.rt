@@ -2,6 +2,7 @@
 ghost use Rattle.std.specs.Prelude.{◌≡◌, ◌<◌, ◌≤◌};
 ghost use Rattle.crossbeam_queue.specs.Passes.{IsSamePass, IsPassOf, ruled_capacity, view};
 ghost use Rattle.free_engine.specs.HintRule.{first_view, idle_view};
+ghost use Rattle.graph_terms.specs.declared.limits.TheConstants.{MAX_LINES_OF_THREE};
 
 use crate::hint_rule::{Bound, QueueRule, SetsBound};
 use crate::hint_view::HintView;
@@ -12,12 +13,12 @@ use std::marker::Brand;
 
 pub(crate) type RuledQueue = RuledArrayQueue<u32, HintView, QueueRule>;
 
-/// A queue of numbers below a bound, from 1 to 8,192, with room for as many of them as the bound says.
+/// A queue of numbers below a bound, from 1 to 65,536, with room for as many of them as the bound says.
 #[derive(Drop)]
 pub struct HintQueue {
     pub(crate) ruled: RuledQueue,
     pub(crate) lines: u32,
-    ghost sized: { (0 < lines) × (lines ≤ 8192) × (ruled_capacity ruled ≡ lines) },
+    ghost sized: { (0 < lines) × (lines ≤ MAX_LINES_OF_THREE) × (ruled_capacity ruled ≡ lines) },
 }
 
 /// The right to make the hints of one queue.
@@ -33,7 +34,7 @@ impl HintQueue {
     /// An empty queue for the numbers below `lines`, and the right to make its hints. `NoMemory` comes where
     /// memory ran out.
     pub fn new(alloc: Global, lines: u32) -> Result<(HintQueue, HintPass), NoMemory>
-        requires { (1 ≤ lines) × (lines ≤ 8192) }
+        requires { (1 ≤ lines) × (lines ≤ MAX_LINES_OF_THREE) }
         ensures lines { IfOk result (λ r. lines_of r.0 ≡ lines) }
         ensures pass { IfOk result (λ r. IsHintPassOf r.0 r.1) }
     {

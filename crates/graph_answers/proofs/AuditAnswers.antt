@@ -22,7 +22,7 @@ use Rattle.graph_answers.specs.declared.status.Status.TheVariants.{Done, Unread,
 use Rattle.graph_answers.specs.Texts.{unlawful_text, lawful_text, trace_refused_text}
 use Rattle.graph_answers.specs.Delivered.{Delivers, IsAnswered}
 use Rattle.graph_answers.specs.Refused.{Refuses, Rejects}
-use Rattle.graph_answers.specs.AuditAnswer.{HasTrace, LawfulAnswers, TraceAnswers, PartsAnswer, ShortAnswers, AuditAnswers, PartsAsk, ShortAsks, AuditAsks}
+use Rattle.graph_answers.specs.AuditAnswer.{audit_limit, HasTrace, LawfulAnswers, TraceAnswers, PartsAnswer, ShortAnswers, AuditAnswers, PartsAsk, ShortAsks, AuditAsks}
 use Rattle.graph_answers.proofs.Delivering.{text_or_refused, accepted_or_unfit}
 
 -- a fault of a trace has a text
@@ -81,7 +81,7 @@ pub rejected_parts : (g h : GraphValue) (lines : ℕ) (bytes : List ℕ) → g �
 rejected_parts g h lines bytes e Unfit out r = subst (λ x. PartsAnswer x lines bytes Unfit out) e r
 rejected_parts g h lines bytes e _ out r = absurd r
 
-pub parts_audit : (bytes front back : List ℕ) (lines : ℕ) → front ≡ graph_bytes bytes → lines ≡ newlines front → back ≡ trace_bytes bytes → length bytes ≤ 2097152 → (g : GraphValue) → GraphText front g → (status : Status) (out : List ℕ) → PartsAnswer g lines back status out → AuditAnswers bytes status out
+pub parts_audit : (bytes front back : List ℕ) (lines : ℕ) → front ≡ graph_bytes bytes → lines ≡ newlines front → back ≡ trace_bytes bytes → length bytes ≤ audit_limit bytes → (g : GraphValue) → GraphText front g → (status : Status) (out : List ℕ) → PartsAnswer g lines back status out → AuditAnswers bytes status out
 parts_audit bytes front back lines f n b short g t status out a = by_status status (subst (λ m. PartsAnswer g m (trace_bytes bytes) status out) (n ∙ ap newlines f) (subst (λ x. PartsAnswer g lines x status out) b a))
   where
     text : GraphText (graph_bytes bytes) g
@@ -94,7 +94,7 @@ parts_audit bytes front back lines f n b short g t status out a = by_status stat
     by_status Unlawful p = (short, (g, text, p))
     by_status _ p = absurd (p.1).2
 
-pub refused_audit : (bytes front : List ℕ) → front ≡ graph_bytes bytes → length bytes ≤ 2097152 → (status : Status) (out : List ℕ) → Refuses front status out → AuditAnswers bytes status out
+pub refused_audit : (bytes front : List ℕ) → front ≡ graph_bytes bytes → length bytes ≤ audit_limit bytes → (status : Status) (out : List ℕ) → Refuses front status out → AuditAnswers bytes status out
 refused_audit bytes front f short Unread out r = (short, inl (subst (λ x. Refuses x Unread out) f r))
 refused_audit bytes front f short _ out r = absurd r
 
@@ -126,7 +126,7 @@ module _ (tells : TextTells) (g : GraphValue) (fits : IsGraph g) (lines : ℕ) (
   one_parts Unlawful _ out a b = absurd b.1
   one_parts _ t out a b = absurd (a.1).2
 
-too_much : (bytes : List ℕ) → length bytes ≤ 2097152 → 2097152 < length bytes → ⊥
+too_much : (bytes : List ℕ) → length bytes ≤ audit_limit bytes → audit_limit bytes < length bytes → ⊥
 too_much bytes x y = omega arith
 
 module _ (tells : TextTells) (bytes : List ℕ) (one : OneReading (graph_bytes bytes)) where

@@ -6,6 +6,7 @@ use Rattle.command_line.specs.declared.request.Request.{Request}
 use Rattle.graph_answers.specs.declared.status.Status.{Status}
 use Rattle.graph_answers.specs.declared.status.Status.TheVariants.{Done, Unread, Unfit, Slots, TooLong}
 use Rattle.realm_io.specs.Written.{Wrote, Stopped}
+use Rattle.graph_words.specs.Limits.{text_limit}
 use Rattle.graph_words.specs.Text.{GraphText}
 use Rattle.graph_reader.specs.Laws.{OneReading}
 use Rattle.race_check.specs.Refusal.{IsRefusal}
@@ -57,7 +58,7 @@ accepted_or_unfit g out a u = broken_by g u.why out u.refused u.says a
 both_judged : (bytes : List ℕ) → OneReading bytes → (g h : GraphValue) → GraphText bytes g → GraphText bytes h → Accepted g → (Accepted h → ⊥) → ⊥
 both_judged bytes one g h t u a b = b (subst Accepted (one.one_graph g h t u) a)
 
-pub too_short : (bytes : List ℕ) → length bytes ≤ 1048576 → 1048576 < length bytes → ⊥
+pub too_short : (bytes : List ℕ) → length bytes ≤ text_limit bytes → text_limit bytes < length bytes → ⊥
 too_short bytes x y = omega arith
 
 -- a graph is not given both slots enough and too few, nor are two graphs of one text
@@ -110,13 +111,13 @@ pub refused_as : (A : Status → List ℕ → Type 0) (s t : SinkState) (result 
 refused_as A s t result h r = answered_as A s t result result h refl (λ e. true≢false (sym r ∙ ap is_refusal e)) (λ e. true≢false (sym r ∙ ap is_refusal e))
 
 -- what becomes of a graph that was read is the answer to its text, and so is what is refused
-pub judged_input : (request : Request) (bytes : List ℕ) → length bytes ≤ 1048576 → (g : GraphValue) → GraphText bytes g → (status : Status) (out : List ℕ) → Judged request g status out → InputAnswers request bytes status out
+pub judged_input : (request : Request) (bytes : List ℕ) → length bytes ≤ text_limit bytes → (g : GraphValue) → GraphText bytes g → (status : Status) (out : List ℕ) → Judged request g status out → InputAnswers request bytes status out
 judged_input request bytes short g h Done out j = (short, (g, h, j))
 judged_input request bytes short g h Unfit out j = (short, (g, h, j))
 judged_input request bytes short g h Slots out j = (short, (g, h, j))
 judged_input request bytes short g h _ out j = absurd j.1
 
-pub refused_input : (request : Request) (bytes : List ℕ) → length bytes ≤ 1048576 → (status : Status) (out : List ℕ) → Refuses bytes status out → InputAnswers request bytes status out
+pub refused_input : (request : Request) (bytes : List ℕ) → length bytes ≤ text_limit bytes → (status : Status) (out : List ℕ) → Refuses bytes status out → InputAnswers request bytes status out
 refused_input request bytes short Unread out r = (short, r)
 refused_input request bytes short _ out r = absurd r
 

@@ -1,4 +1,4 @@
--- That a need is no more than the slots that a table may have.
+-- That a need is no more than the lines that a graph may have.
 use Rattle.std.proofs.Common.{◌≡◌, ℕ, zero, suc, ◌+◌, ◌<◌, ◌≤◌, List, [], ◌∷◌, map, length, take, arith}
 use Rattle.std.specs.Prelude.{Contains, nat_lt}
 use Rattle.std.proofs.lemmas.List.Sums.{count_by-le-length}
@@ -15,15 +15,15 @@ largest_at_most (x ∷ xs) m h =
     omega (arith, here, rest)
 
 -- a need is at most the number of lines, or 1
-pub need_is_small : (g : GraphValue) (n : ℕ) → IsNeed g n → length g.lines ≤ 8192 → n ≤ 8192
-need_is_small g n is few =
+pub need_is_small : (g : GraphValue) (n m : ℕ) → IsNeed g n → length g.lines ≤ m + 1 → n ≤ m + 1
+need_is_small g n m is few =
     let most : n ≡ 1 + largest (map (open_at is.highs) (numbers_below (length g.lines))) = is.most in
-    let bound : largest (map (open_at is.highs) (numbers_below (length g.lines))) ≤ 8191 = largest_at_most (map (open_at is.highs) (numbers_below (length g.lines))) 8191 (λ x c.
-    let m = map_contains (open_at is.highs) (numbers_below (length g.lines)) x c in
-    let below : m.0 < length g.lines = below_contains (length g.lines) m.0 m.1 in
-    let counted : open_at is.highs m.0 ≤ length (take m.0 is.highs) = count_by-le-length (nat_lt m.0) (take m.0 is.highs) in
-    let short : length (take m.0 is.highs) ≤ m.0 = length_take_most m.0 is.highs in
-    let same : open_at is.highs m.0 ≡ x = m.2 in
+    let bound : largest (map (open_at is.highs) (numbers_below (length g.lines))) ≤ m = largest_at_most (map (open_at is.highs) (numbers_below (length g.lines))) m (λ x c.
+    let at = map_contains (open_at is.highs) (numbers_below (length g.lines)) x c in
+    let below : at.0 < length g.lines = below_contains (length g.lines) at.0 at.1 in
+    let counted : open_at is.highs at.0 ≤ length (take at.0 is.highs) = count_by-le-length (nat_lt at.0) (take at.0 is.highs) in
+    let short : length (take at.0 is.highs) ≤ at.0 = length_take_most at.0 is.highs in
+    let same : open_at is.highs at.0 ≡ x = at.2 in
     omega (arith, below, few, counted, short, same)) in
     omega (arith, most, bound)
   where

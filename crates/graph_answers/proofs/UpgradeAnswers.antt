@@ -1,6 +1,7 @@
 -- What follows for the answers of `upgrade`.
 use Rattle.std.proofs.Common.{◌≡◌, ℕ, ◌≤◌, Bool, List, length, refl, ap, inr}
 use Rattle.graph_terms.specs.Graph.{GraphValue}
+use Rattle.graph_words.specs.Limits.{text_limit}
 use Rattle.graph_words.specs.Text.{GraphText, text}
 use Rattle.graph_reader.specs.Laws.{OneReading}
 use Rattle.realm_io.specs.SinkState.{SinkState}
@@ -28,10 +29,10 @@ one_upgrade to_three bytes one TooLong _ o a b = absurd b
 one_upgrade to_three bytes one _ t o a b = absurd a
 
 -- the text of a graph in a later format is an answer to its text, and so is what is refused
-pub upgraded_answer : (to_three : Bool) (bytes : List ℕ) (g h : GraphValue) (s t : SinkState) (result : Status) → length bytes ≤ 1048576 → GraphText bytes g → h ≡ upgrade_of to_three g → Delivers s t Done result (text h)
+pub upgraded_answer : (to_three : Bool) (bytes : List ℕ) (g h : GraphValue) (s t : SinkState) (result : Status) → length bytes ≤ text_limit bytes → GraphText bytes g → h ≡ upgrade_of to_three g → Delivers s t Done result (text h)
     → IsAnswered (UpgradeAnswers to_three bytes) s t result
 upgraded_answer to_three bytes g h s t result short u e d = inr (Done, text h, (short, (g, u, ap text e)), d)
 
-pub refused_upgrade : (to_three : Bool) (bytes : List ℕ) → length bytes ≤ 1048576 → (status : Status) (out : List ℕ) → Refuses bytes status out → UpgradeAnswers to_three bytes status out
+pub refused_upgrade : (to_three : Bool) (bytes : List ℕ) → length bytes ≤ text_limit bytes → (status : Status) (out : List ℕ) → Refuses bytes status out → UpgradeAnswers to_three bytes status out
 refused_upgrade to_three bytes short Unread out r = (short, r)
 refused_upgrade to_three bytes short _ out r = absurd r

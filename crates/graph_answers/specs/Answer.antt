@@ -1,14 +1,14 @@
 -- What is to be answered, and written, for the text of a graph alone that is checked, and for an accepted graph.
-use Rattle.std.specs.Prelude.{◌≡◌, ℕ, ◌+◌, ◌-◌, ◌*◌, ◌<◌, ◌≤◌, nat_lt, max, Bool, true, false, not, List, [], ◌++◌, length, Option, Some, ◌↔◌}
+use Rattle.std.specs.Prelude.{◌≡◌, ℕ, ◌+◌, ◌-◌, ◌*◌, ◌<◌, ◌≤◌, nat_lt, max, Bool, true, false, not, List, [], ◌++◌, length, Option, Some, None, ◌↔◌}
 use Rattle.realm_io.specs.SinkState.{SinkState}
 use Rattle.graph_terms.specs.Graph.{GraphValue}
-use Rattle.graph_terms.specs.declared.limits.TheConstants.{MAX_TEXT}
 use Rattle.graph_terms.specs.declared.outcome.End.TheVariants.{Cancelled, Waiting}
 use Rattle.graph_meaning.specs.Path.{Reached}
 use Rattle.graph_meaning.specs.Rules.{Accepted}
 use Rattle.graph_meaning.specs.Need.{IsNeed}
 use Rattle.graph_meaning.specs.Trace.{IsLawful}
 use Rattle.graph_meaning.specs.Evaluation.{eval_end, outcome, order, Unbroken}
+use Rattle.command_line.specs.declared.request.TheConstants.{MAX_SLOTS}
 use Rattle.command_line.specs.declared.request.Action.{Action}
 use Rattle.command_line.specs.declared.request.Action.TheVariants.{Run, Check, Eval, Make, Audit, Timeline, Upgrade, Session}
 use Rattle.command_line.specs.declared.request.Request.{Request}
@@ -19,6 +19,7 @@ use Rattle.realm_timeline.specs.Plan.{IsPlan, IsValid, IsGreedy, plan_length, to
 use Rattle.realm_timeline.specs.Chains.{IsCritical, chain_cost}
 use Rattle.realm_timeline.specs.Laws.{AcquiresNone}
 use Rattle.realm_timeline.specs.Text.{timeline_text}
+use Rattle.graph_words.specs.Limits.{text_limit}
 use Rattle.graph_words.specs.Text.{GraphText, text}
 use Rattle.graph_answers.specs.declared.status.Status.{Status}
 use Rattle.graph_answers.specs.declared.status.Status.TheVariants.{Done, Unread, Unfit, Slots, TooLong}
@@ -63,10 +64,15 @@ runs_nothing Eval = true
 runs_nothing Timeline = true
 runs_nothing _ = false
 
--- a run that is given fewer slots than the need
+-- how many slots the events of a run, or of all graphs of a session, may have: as many as are given, or 8,192
+abbrev pub most_slots : Option ℕ → ℕ
+most_slots None = MAX_SLOTS
+most_slots (Some slots) = slots
+
+-- a run that has fewer slots than the need
 abbrev pub is_short_by : Bool → Option ℕ → ℕ → Bool
-is_short_by true (Some slots) need = nat_lt slots need
-is_short_by _ _ need = false
+is_short_by true slots need = nat_lt (most_slots slots) need
+is_short_by false slots need = false
 
 abbrev pub is_short : Request → ℕ → Bool
 is_short request need = is_short_by (runs request.action request.text) request.slots need
@@ -128,10 +134,10 @@ TextAnswers request bytes status out = (g : GraphValue) × GraphText bytes g × 
 
 -- the answer to an input of these bytes, which may be too long
 abbrev pub InputAnswers : Request → List ℕ → Status → List ℕ → Type 0
-InputAnswers request bytes TooLong out = (MAX_TEXT < length bytes) × (out ≡ too_long_text)
-InputAnswers request bytes status out = (length bytes ≤ MAX_TEXT) × TextAnswers request bytes status out
+InputAnswers request bytes TooLong out = (text_limit bytes < length bytes) × (out ≡ too_long_text)
+InputAnswers request bytes status out = (length bytes ≤ text_limit bytes) × TextAnswers request bytes status out
 
--- an accepted graph is given slots enough, or too few. A graph has one need at most
+-- an accepted graph has slots enough, or too few. A graph has one need at most
 abbrev pub EnoughSlots : Request → GraphValue → Type 0
 EnoughSlots request g = (need : ℕ) → IsNeed g need → is_short request need ≡ false
 
@@ -148,10 +154,10 @@ TextAsks request bytes status = ⊥
 
 -- the status that an input of these bytes asks for
 abbrev pub InputAsks : Request → List ℕ → Status → Type 0
-InputAsks request bytes TooLong = MAX_TEXT < length bytes
-InputAsks request bytes status = (length bytes ≤ MAX_TEXT) × TextAsks request bytes status
+InputAsks request bytes TooLong = text_limit bytes < length bytes
+InputAsks request bytes status = (length bytes ≤ text_limit bytes) × TextAsks request bytes status
 
--- an action that reads a graph alone was done with these bytes: they are the one text of an accepted graph, a run was given enough slots, and the text of the action was written and flushed
+-- an action that reads a graph alone was done with these bytes: they are the one text of an accepted graph, a run had enough slots, and the text of the action was written and flushed
 pub record IsDone (request : Request) (bytes : List ℕ) (old new : SinkState) : Type 0 where
   pub graph : GraphValue
   pub text : GraphText bytes graph

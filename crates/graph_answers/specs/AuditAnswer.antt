@@ -1,9 +1,9 @@
 -- What `audit` is to answer, and what it is to write. Its input is the text of a graph, and behind it that of a trace.
 use Rattle.std.specs.Prelude.{◌≡◌, ℕ, ◌*◌, ◌<◌, ◌≤◌, List, length, ◌⊎◌}
 use Rattle.graph_terms.specs.Graph.{GraphValue}
-use Rattle.graph_terms.specs.declared.limits.TheConstants.{MAX_TEXT}
 use Rattle.graph_meaning.specs.Rules.{Accepted}
 use Rattle.graph_meaning.specs.Trace.{IsLawful}
+use Rattle.graph_words.specs.Limits.{text_limit}
 use Rattle.graph_words.specs.Text.{GraphText}
 use Rattle.realm_audit.specs.Text.{trace_text}
 use Rattle.realm_audit.specs.Parts.{newlines, graph_bytes, trace_bytes}
@@ -15,9 +15,9 @@ use Rattle.program_io.specs.Delivered.{Delivered, too_long_text}
 use Rattle.graph_answers.specs.Refused.{IsRefused, IsUnfit, IsNoTrace, IsUnlawful}
 use Rattle.graph_answers.specs.Texts.{lawful_text}
 
--- the most bytes that the input may have
-abbrev pub AUDIT_LIMIT : ℕ
-AUDIT_LIMIT = 2 * MAX_TEXT
+-- the most bytes that the input may have: twice as many as a graph's text which begins so
+abbrev pub audit_limit : List ℕ → ℕ
+audit_limit bytes = 2 * text_limit bytes
 
 -- the bytes are the text of this trace of the graph
 pub record HasTrace (g : GraphValue) (bytes trace : List ℕ) : Type 0 where
@@ -46,8 +46,8 @@ ShortAnswers bytes Unread out = IsRefused (graph_bytes bytes) out ⊎ ((g : Grap
 ShortAnswers bytes status out = (g : GraphValue) × GraphText (graph_bytes bytes) g × PartsAnswer g (newlines (graph_bytes bytes)) (trace_bytes bytes) status out
 
 abbrev pub AuditAnswers : List ℕ → Status → List ℕ → Type 0
-AuditAnswers bytes TooLong out = (AUDIT_LIMIT < length bytes) × (out ≡ too_long_text)
-AuditAnswers bytes status out = (length bytes ≤ AUDIT_LIMIT) × ShortAnswers bytes status out
+AuditAnswers bytes TooLong out = (audit_limit bytes < length bytes) × (out ≡ too_long_text)
+AuditAnswers bytes status out = (length bytes ≤ audit_limit bytes) × ShortAnswers bytes status out
 
 -- the status that the bytes behind an accepted graph ask for
 abbrev pub TraceAsks : GraphValue → List ℕ → Status → Type 0
@@ -67,8 +67,8 @@ ShortAsks bytes Unread = ((g : GraphValue) → GraphText (graph_bytes bytes) g �
 ShortAsks bytes status = (g : GraphValue) × GraphText (graph_bytes bytes) g × PartsAsk g (trace_bytes bytes) status
 
 abbrev pub AuditAsks : List ℕ → Status → Type 0
-AuditAsks bytes TooLong = AUDIT_LIMIT < length bytes
-AuditAsks bytes status = (length bytes ≤ AUDIT_LIMIT) × ShortAsks bytes status
+AuditAsks bytes TooLong = audit_limit bytes < length bytes
+AuditAsks bytes status = (length bytes ≤ audit_limit bytes) × ShortAsks bytes status
 
 -- an audit was done with these bytes: they are the text of an accepted graph, and behind it that of a lawful trace, and the word for that was written and flushed
 pub record IsAudited (bytes : List ℕ) (old new : SinkState) : Type 0 where

@@ -42,7 +42,7 @@ unread_text number why = spelled (codes "refused" ∷ codes "line" ∷ decimal n
 abbrev pub accepted_text : ℕ → List ℕ
 accepted_text need = spelled (codes "accepted" ∷ codes "need" ∷ decimal need ∷ [])
 
--- the line for a run that is given fewer slots than this need
+-- the line for a run that has fewer slots than this need
 abbrev pub slots_text : ℕ → List ℕ
 slots_text need = spelled (codes "needs" ∷ decimal need ∷ codes "slots" ∷ [])
 

@@ -2,7 +2,7 @@
 use Rattle.std.specs.Prelude.{◌≡◌, ℕ, ◌<◌, ◌≤◌, Bool, true, false, List, length}
 use Rattle.graph_terms.specs.declared.format.Format.TheVariants.{Three}
 use Rattle.graph_terms.specs.Graph.{GraphValue, written_in, upgraded}
-use Rattle.graph_terms.specs.declared.limits.TheConstants.{MAX_TEXT}
+use Rattle.graph_words.specs.Limits.{text_limit}
 use Rattle.graph_words.specs.Text.{GraphText, text}
 use Rattle.realm_io.specs.SinkState.{SinkState}
 use Rattle.graph_answers.specs.declared.status.Status.{Status}
@@ -17,16 +17,16 @@ upgrade_of false g = upgraded g
 
 -- the answer to an input of these bytes, and the text that goes with it: the text of the graph in a later format, whether or not it is accepted
 abbrev pub UpgradeAnswers : Bool → List ℕ → Status → List ℕ → Type 0
-UpgradeAnswers to_three bytes Done out = (length bytes ≤ MAX_TEXT) × ((g : GraphValue) × GraphText bytes g × (out ≡ text (upgrade_of to_three g)))
-UpgradeAnswers to_three bytes Unread out = (length bytes ≤ MAX_TEXT) × IsRefused bytes out
-UpgradeAnswers to_three bytes TooLong out = (MAX_TEXT < length bytes) × (out ≡ too_long_text)
+UpgradeAnswers to_three bytes Done out = (length bytes ≤ text_limit bytes) × ((g : GraphValue) × GraphText bytes g × (out ≡ text (upgrade_of to_three g)))
+UpgradeAnswers to_three bytes Unread out = (length bytes ≤ text_limit bytes) × IsRefused bytes out
+UpgradeAnswers to_three bytes TooLong out = (text_limit bytes < length bytes) × (out ≡ too_long_text)
 UpgradeAnswers to_three bytes _ out = ⊥
 
 -- the status that an input of these bytes asks for
 abbrev pub UpgradeAsks : List ℕ → Status → Type 0
-UpgradeAsks bytes Done = (length bytes ≤ MAX_TEXT) × ((g : GraphValue) × GraphText bytes g)
-UpgradeAsks bytes Unread = (length bytes ≤ MAX_TEXT) × ((g : GraphValue) → GraphText bytes g → ⊥)
-UpgradeAsks bytes TooLong = MAX_TEXT < length bytes
+UpgradeAsks bytes Done = (length bytes ≤ text_limit bytes) × ((g : GraphValue) × GraphText bytes g)
+UpgradeAsks bytes Unread = (length bytes ≤ text_limit bytes) × ((g : GraphValue) → GraphText bytes g → ⊥)
+UpgradeAsks bytes TooLong = text_limit bytes < length bytes
 UpgradeAsks bytes _ = ⊥
 
 -- an upgrade was done with these bytes: they are the one text of a graph, and its text in a later format, in format 3 where that is asked for, was written and flushed

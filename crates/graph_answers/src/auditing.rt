@@ -5,7 +5,7 @@ ghost use Rattle.realm_audit.specs.Lawful.{NamesLines};
 ghost use Rattle.realm_audit.specs.Reading.{AreLines};
 ghost use Rattle.realm_audit.specs.declared.refusal.AuditRefusal.{AuditRefusal};
 ghost use Rattle.realm_audit.specs.Parts.{newlines};
-ghost use Rattle.graph_answers.specs.AuditAnswer.{AUDIT_LIMIT, AuditAnswers, PartsAnswer, TraceAnswers, LawfulAnswers};
+ghost use Rattle.graph_answers.specs.AuditAnswer.{audit_limit, AuditAnswers, PartsAnswer, TraceAnswers, LawfulAnswers};
 ghost use Rattle.graph_answers.specs.Delivered.{Delivers, IsAnswered};
 ghost use Rattle.graph_answers.specs.Texts.{trace_refused_text, unlawful_text};
 
@@ -15,6 +15,7 @@ use crate::unlawful::{put_trace_refused, put_unlawful};
 use graph_model::graph::Graph;
 use graph_reader::read_graph;
 use graph_terms::lists::LineList;
+use graph_words::limits::text_limit;
 use plain_eval::evaluation::eval;
 use program_io::{flush, put_text};
 use race_check::check;
@@ -23,12 +24,21 @@ use realm_audit::{AuditRefusal, TraceRefusal, audit, newlines, parts, read_trace
 use realm_io::Sink;
 use std::alloc::Global;
 
+/// The most bytes that an input of `audit` may have which begins as these do: twice as many as the text of a graph.
+pub fn audit_limit(bytes: &[u8]) -> u64
+    ensures limit { result ≡ audit_limit bytes.now }
+    ensures few { result < 2 ^ 32 }
+{
+    2 * text_limit(bytes)
+}
+
 /// Says of an input of `audit` whether its trace is lawful.
 pub fn answer_audit<K: Sink>(alloc: Global, bytes: &[u8], sink: &mut K) -> Status
-    requires short { length bytes.now ≤ AUDIT_LIMIT }
+    requires short { length bytes.now ≤ audit_limit bytes.now }
     ensures answered { IsAnswered (AuditAnswers bytes.now) (K.state sink.old) (K.state sink.new) result }
     ensures no_memory { result ≡ Status.NoMemory → sink.new ≡ sink.old }
 {
+    let _ = audit_limit(bytes);
     let (front, back) = parts(bytes);
     match read_graph(alloc, front) {
         Ok(graph) => audit_graph(alloc, graph, newlines(front), back, sink),

@@ -1,4 +1,4 @@
-//! What is answered where a text or a graph is refused, or a run is given too few slots.
+//! What is answered where a text or a graph is refused, or a run has too few slots.
 
 ghost use Rattle.std.specs.Prelude.{◌≡◌, ℕ, List};
 ghost use Rattle.graph_terms.specs.declared.why.Why.{Why};
@@ -55,7 +55,7 @@ pub fn reject<K: Sink>(sink: &mut K, unfit: &Unfit) -> Status
     }
 }
 
-/// Writes how many slots a run needs that was given fewer, and flushes it.
+/// Writes how many slots a run needs that has fewer, and flushes it.
 pub fn put_short<K: Sink>(sink: &mut K, need: u32) -> Status
     ensures { Delivers (K.state sink.old) (K.state sink.new) Status.Slots result (slots_text need) }
 {

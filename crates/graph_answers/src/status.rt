@@ -22,9 +22,10 @@ pub enum Status {
     WriteFault,
     /// Memory ran out, before anything was written.
     NoMemory,
-    /// The run, or the session, was given too few slots.
+    /// The run, or the session, has too few slots.
     Slots,
-    /// The input has more bytes than the action takes: 1,048,576, and for `audit` 2,097,152.
+    /// The input has more bytes than the action takes: 1,048,576, and 16,777,216 where it begins with
+    /// the first line of format 3 and is no session; for `audit` twice as many.
     TooLong,
     /// The trace is not lawful.
     Unlawful,

@@ -42,7 +42,7 @@ fn column_sum(column: &Column) -> u64
 {
     let mut so_far: u64 = 0;
     for rank in 0..column.space().size() {
-        so_far = so_far.wrapping_add(column.at(rank));
+        so_far = so_far.wrapping_add(column.at(rank as u32));
     }
     so_far
 }

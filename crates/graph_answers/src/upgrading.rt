@@ -1,6 +1,7 @@
 //! What is answered by the text of a graph: `upgrade` reads one, and writes it in a later format.
 
 ghost use Rattle.std.specs.Prelude.{◌≡◌, ◌≤◌, length};
+ghost use Rattle.graph_words.specs.Limits.{text_limit};
 ghost use Rattle.graph_words.specs.Text.{text};
 ghost use Rattle.graph_answers.specs.Delivered.{Delivers, IsAnswered};
 ghost use Rattle.graph_answers.specs.UpgradeAnswer.{upgrade_of, UpgradeAnswers};
@@ -9,7 +10,6 @@ use crate::refusing::refuse;
 use crate::status::Status;
 use graph_model::graph::Graph;
 use graph_reader::read_graph;
-use graph_terms::limits::MAX_TEXT;
 use graph_writer::put_graph;
 use program_io::flush;
 use realm_io::Sink;
@@ -18,7 +18,7 @@ use std::alloc::Global;
 /// Reads the graph whose text the bytes are, and writes its text in format 3 where that is asked for; else in format 2,
 /// or in format 3 where it has that.
 pub fn answer_upgrade<K: Sink>(alloc: Global, bytes: &[u8], to_three: bool, sink: &mut K) -> Status
-    requires short { length bytes.now ≤ MAX_TEXT }
+    requires short { length bytes.now ≤ text_limit bytes.now }
     ensures answered { IsAnswered (UpgradeAnswers to_three bytes.now) (K.state sink.old) (K.state sink.new) result }
     ensures no_memory { result ≡ Status.NoMemory → sink.new ≡ sink.old }
 {

@@ -1,2 +1,3 @@
 pub mod StockLaws
-pub mod Slots
+pub mod ChainLaws
+pub mod MarkLaws

@@ -1,10 +1,12 @@
 -- The quantities of a graph that have greatest values, and the lengths of words of its text.
-use Rattle.std.specs.Prelude.{ℕ, ◌+◌, nat_lt, Bool, ◌||◌, List, length, filter, sum_by}
+use Rattle.std.specs.Prelude.{ℕ, ◌+◌, nat_lt, Bool, ◌&&◌, ◌||◌, List, length, filter, sum_by}
 use Rattle.index_spaces.specs.Space.{space_size}
 use Rattle.graph_indexes.specs.declared.counts.Counts.{Counts}
-use Rattle.graph_terms.specs.declared.limits.TheConstants.{MAX_TEXT, MAX_INSTS, MAX_COLUMNS, MAX_CELLS, MAX_LOCKS, MAX_BARRIERS, MAX_LINES, MAX_EDGES}
+use Rattle.graph_terms.specs.declared.limits.TheConstants.{MAX_TEXT, MAX_SPACES}
+use Rattle.graph_terms.specs.Limits.{limits}
+use Rattle.graph_terms.specs.declared.format.Format.{Format}
 use Rattle.graph_terms.specs.declared.decl.Decl.{Decl}
-use Rattle.graph_terms.specs.Graph.{GraphValue, columns_of, columns, locks, barriers, space_at}
+use Rattle.graph_terms.specs.Graph.{GraphValue, columns_of, named_spaces, columns, locks, barriers, space_at}
 use Rattle.graph_terms.specs.declared.decl.ColumnInfo.{ColumnInfo}
 use Rattle.graph_terms.specs.Edges.{edges}
 use Rattle.graph_terms.specs.Fits.{is_inst, cell_count}
@@ -22,6 +24,7 @@ cells_of_decl g d = sum_by (λ (c : ColumnInfo). space_size (space_at g c.space)
 abbrev pub counts_of : GraphValue → Counts
 counts_of g = record {
   text = length (head g);
+  spaces = length (named_spaces g);
   insts = length (filter is_inst g.decls);
   columns = length (columns g);
   cells = cell_count g;
@@ -31,7 +34,12 @@ counts_of g = record {
   edges = length (edges g);
 }
 
--- a quantity is above its greatest value
-abbrev pub is_above : Counts → Bool
-is_above c = nat_lt MAX_TEXT c.text || (nat_lt MAX_INSTS c.insts || (nat_lt MAX_COLUMNS c.columns || (nat_lt MAX_CELLS c.cells
-    || (nat_lt MAX_LOCKS c.locks || (nat_lt MAX_BARRIERS c.barriers || (nat_lt MAX_LINES c.lines || nat_lt MAX_EDGES c.edges))))))
+-- more spaces than a long text may declare
+abbrev pub has_many_spaces : Counts → Bool
+has_many_spaces c = nat_lt MAX_SPACES c.spaces && nat_lt MAX_TEXT c.text
+
+-- a quantity is above its greatest value in a format
+abbrev pub is_above : Format → Counts → Bool
+is_above f c = nat_lt (limits f).text c.text || (has_many_spaces c || (nat_lt (limits f).insts c.insts || (nat_lt (limits f).columns c.columns
+    || (nat_lt (limits f).cells c.cells || (nat_lt (limits f).locks c.locks || (nat_lt (limits f).barriers c.barriers
+    || (nat_lt (limits f).lines c.lines || nat_lt (limits f).edges c.edges)))))))

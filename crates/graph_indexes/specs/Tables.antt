@@ -1,7 +1,7 @@
 -- What a graph keeps beside its declarations to answer by number.
 use Rattle.std.specs.Prelude.{ℕ, ◌+◌, ◌≤◌, List, [], ◌∷◌, ◌++◌, length, filter, filter_map, flat_map, Option, option_map}
 use Rattle.std.specs.List.{cons_option}
-use Rattle.graph_terms.specs.declared.limits.TheConstants.{MAX_TEXT, MAX_INSTS, MAX_COLUMNS, MAX_CELLS, MAX_LOCKS, MAX_BARRIERS, MAX_LINES, MAX_EDGES}
+use Rattle.graph_terms.specs.declared.limits.TheConstants.{MAX_TEXT_OF_THREE, MAX_INSTS_OF_THREE, MAX_COLUMNS_OF_THREE, MAX_CELLS_OF_THREE, MAX_LOCKS_OF_THREE, MAX_BARRIERS_OF_THREE, MAX_LINES_OF_THREE, MAX_EDGES_OF_THREE}
 use Rattle.graph_terms.specs.declared.decl.Decl.{Decl}
 use Rattle.graph_terms.specs.Graph.{GraphValue, space_of, columns_of, lock_of, barrier_of, named_spaces, columns, locks, barriers}
 use Rattle.graph_terms.specs.declared.decl.ColumnInfo.{ColumnInfo}
@@ -10,9 +10,10 @@ use Rattle.graph_terms.specs.Edges.{edges}
 use Rattle.graph_terms.specs.Fits.{is_inst, cell_count}
 use Rattle.graph_terms.specs.Spelling.{head}
 
--- where the spaces stand among the declarations, and the columns, the reservations and the barriers
+-- where the spaces stand among the declarations, how many columns are before each declaration, and the columns, the reservations and the barriers
 pub record TablesValue : Type 0 where
   pub space_places : List ℕ
+  pub first_columns : List ℕ
   pub column_infos : List ColumnInfo
   pub lock_names : List (List ℕ)
   pub barrier_infos : List BarrierInfo
@@ -22,33 +23,50 @@ abbrev pub places_of : {X Y : Type 0} → (X → Option Y) → ℕ → List X �
 places_of f n [] = []
 places_of f n (x ∷ xs) = cons_option (option_map (λ y. n) (f x)) (places_of f (n + 1) xs)
 
+-- how many columns are before each declaration, the first having n before it
+abbrev pub firsts_of : ℕ → List Decl → List ℕ
+firsts_of n [] = []
+firsts_of n (d ∷ ds) = n ∷ firsts_of (n + length (columns_of d)) ds
+
 -- the tables of declarations
 abbrev pub tables_of : List Decl → TablesValue
 tables_of ds = record {
   space_places = places_of space_of 0 ds;
+  first_columns = firsts_of 0 ds;
   column_infos = flat_map columns_of ds;
   lock_names = filter_map lock_of ds;
   barrier_infos = filter_map barrier_of ds;
+}
+
+-- the tables with what a declaration at this place brings
+abbrev pub items_with : TablesValue → Decl → ℕ → TablesValue
+items_with t d place = record {
+  space_places = t.space_places ++ places_of space_of place (d ∷ []);
+  first_columns = t.first_columns;
+  column_infos = t.column_infos ++ columns_of d;
+  lock_names = t.lock_names ++ filter_map lock_of (d ∷ []);
+  barrier_infos = t.barrier_infos ++ filter_map barrier_of (d ∷ []);
 }
 
 -- the tables with those of a declaration at this place
 abbrev pub tables_with : TablesValue → Decl → ℕ → TablesValue
 tables_with t d place = record {
   space_places = t.space_places ++ places_of space_of place (d ∷ []);
+  first_columns = t.first_columns ++ length t.column_infos ∷ [];
   column_infos = t.column_infos ++ columns_of d;
   lock_names = t.lock_names ++ filter_map lock_of (d ∷ []);
   barrier_infos = t.barrier_infos ++ filter_map barrier_of (d ∷ []);
 }
 
--- the numbers of a graph that stay within its limits
+-- the numbers of a graph are within the limits of format 3, which allows the most
 pub record IsWithinLimits (g : GraphValue) : Type 0 where
-  pub few_decls : length g.decls ≤ MAX_TEXT
-  pub few_lines : length g.lines ≤ MAX_LINES
-  pub few_spaces : length (named_spaces g) ≤ MAX_TEXT
-  pub few_columns : length (columns g) ≤ MAX_COLUMNS
-  pub few_locks : length (locks g) ≤ MAX_LOCKS
-  pub few_barriers : length (barriers g) ≤ MAX_BARRIERS
-  pub short_text : length (head g) ≤ MAX_TEXT
-  pub few_insts : length (filter is_inst g.decls) ≤ MAX_INSTS
-  pub few_cells : cell_count g ≤ MAX_CELLS
-  pub few_edges : length (edges g) ≤ MAX_EDGES
+  pub few_decls : length g.decls ≤ MAX_TEXT_OF_THREE
+  pub few_lines : length g.lines ≤ MAX_LINES_OF_THREE
+  pub few_spaces : length (named_spaces g) ≤ MAX_TEXT_OF_THREE
+  pub few_columns : length (columns g) ≤ MAX_COLUMNS_OF_THREE
+  pub few_locks : length (locks g) ≤ MAX_LOCKS_OF_THREE
+  pub few_barriers : length (barriers g) ≤ MAX_BARRIERS_OF_THREE
+  pub short_text : length (head g) ≤ MAX_TEXT_OF_THREE
+  pub few_insts : length (filter is_inst g.decls) ≤ MAX_INSTS_OF_THREE
+  pub few_cells : cell_count g ≤ MAX_CELLS_OF_THREE
+  pub few_edges : length (edges g) ≤ MAX_EDGES_OF_THREE

@@ -1,21 +1,21 @@
 //! The quantities of a graph that have greatest values.
 
 ghost use Rattle.std.specs.Prelude.{◌≡◌, ◌≤◌, [], ◌∷◌, length, filter, filter_map};
-ghost use Rattle.graph_terms.specs.Graph.{columns_of, lock_of, barrier_of};
+ghost use Rattle.graph_terms.specs.Graph.{space_of, columns_of, lock_of, barrier_of};
 ghost use Rattle.graph_terms.specs.Fits.{is_inst};
-ghost use Rattle.graph_indexes.specs.Counts.{is_above};
+ghost use Rattle.graph_indexes.specs.Counts.{is_above, has_many_spaces};
 
 use graph_terms::decl::Decl;
-use graph_terms::limits::{
-    MAX_BARRIERS, MAX_CELLS, MAX_COLUMNS, MAX_EDGES, MAX_INSTS, MAX_LINES, MAX_LOCKS, MAX_TEXT,
-};
+use graph_terms::format::Format;
+use graph_terms::limits::{Limits, MAX_SPACES, MAX_TEXT};
 
 /// The quantities of a graph that have greatest values.
 #[derive(Clone, Copy)]
 pub struct Counts {
-    /// The bytes of the text, up to its closing line.
-    /// Bytes of the text.
+    /// Bytes of the text, up to its closing line.
     pub text: u64,
+    /// Spaces.
+    pub spaces: u64,
     /// Instances.
     pub insts: u64,
     /// Columns of all instances.
@@ -33,18 +33,38 @@ pub struct Counts {
 }
 
 impl Counts {
-    /// Whether one of them is above its greatest value.
-    pub fn is_above(&self) -> bool
-        ensures { result ≡ is_above self.now }
+    /// Whether one of them is above its greatest value in a format.
+    pub fn is_above(&self, format: Format) -> bool
+        ensures { result ≡ is_above format self.now }
     {
-        self.text > MAX_TEXT
-            || self.insts > MAX_INSTS
-            || self.columns > MAX_COLUMNS
-            || self.cells > MAX_CELLS
-            || self.locks > MAX_LOCKS
-            || self.barriers > MAX_BARRIERS
-            || self.lines > MAX_LINES
-            || self.edges > MAX_EDGES
+        let limits = Limits::of(format);
+        self.text > limits.text
+            || self.has_many_spaces()
+            || self.insts > limits.insts
+            || self.columns > limits.columns
+            || self.cells > limits.cells
+            || self.locks > limits.locks
+            || self.barriers > limits.barriers
+            || self.lines > limits.lines
+            || self.edges > limits.edges
+    }
+
+    /// Whether a long text declares more spaces than it may.
+    fn has_many_spaces(&self) -> bool
+        ensures { result ≡ has_many_spaces self.now }
+    {
+        self.spaces > MAX_SPACES && self.text > MAX_TEXT
+    }
+}
+
+/// How many spaces a declaration is.
+pub fn spaces_of(decl: &Decl) -> u64
+    ensures number { result ≡ length (filter_map space_of (decl.now ∷ [])) }
+    ensures few { result ≤ 1 }
+{
+    match decl {
+        Decl::Space { .. } => 1,
+        _ => 0,
     }
 }
 

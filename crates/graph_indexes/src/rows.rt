@@ -89,7 +89,7 @@ impl Rows {
         requires from_below { EndsBelow From given.now (length self.old.marks + 1) }
         requires to_below { EndsBelow To given.now (length self.old.marks + 1) }
         requires named { NamesBelow (length self.old.marks) verb.now }
-        requires few { (i : ℕ) → (mark_at self.old.marks i).arrivals + arrival_weight i verb.now < 2 ^ 32 }
+        requires few { (i : ℕ) → (mark_at self.old.marks i).arrivals + arrival_weight i verb.now < 2 ^ 64 }
         ensures ok { OnOk result (AddsRow self.old self.new verb.now given.now) }
         ensures err { OnErr result (self.new ≡ self.old) }
     {

@@ -2,10 +2,10 @@
 
 ghost use Rattle.std.specs.Prelude.{◌≡◌, ◌<◌, ◌++◌, [], ◌∷◌, ◌≤◌, length, map, position, slice_get, IfSome, OnOk, OnErr};
 ghost use Rattle.graph_terms.specs.Names.{is_column_named};
-ghost use Rattle.graph_indexes.specs.Tables.{tables_of, tables_with};
+ghost use Rattle.graph_indexes.specs.Tables.{tables_of, items_with, tables_with};
 
 use graph_terms::decl::{BarrierInfo, ColumnInfo, Decl};
-use graph_terms::limits::MAX_COLUMNS;
+use graph_terms::limits::MAX_COLUMNS_OF_THREE;
 use graph_terms::lists::NameList;
 use graph_terms::name::Name;
 use index_spaces::NoMemory;
@@ -18,6 +18,8 @@ use std::marker::Model;
 pub struct Tables {
     /// For each space the place of its declaration.
     space_places: Vec<u32>,
+    /// For each declaration how many columns are before it.
+    first_columns: Vec<u32>,
     column_infos: Vec<ColumnInfo>,
     lock_names: Vec<Name>,
     barrier_infos: Vec<BarrierInfo>,
@@ -31,6 +33,7 @@ impl Model for Tables {
 
     ghost view = { λ a. record {
       space_places = a.space_places.items;
+      first_columns = a.first_columns.items;
       column_infos = a.column_infos.items;
       lock_names = a.lock_names.items;
       barrier_infos = a.barrier_infos.items;
@@ -44,6 +47,7 @@ impl Tables {
     {
         Tables {
             space_places: Vec::new(alloc),
+            first_columns: Vec::new(alloc),
             column_infos: Vec::new(alloc),
             lock_names: Vec::new(alloc),
             barrier_infos: Vec::new(alloc),
@@ -86,6 +90,14 @@ impl Tables {
         self.space_places[s as usize]
     }
 
+    /// How many columns are before a declaration.
+    pub fn first_column(&self, d: u32) -> u32
+        requires { d < length self.now.first_columns }
+        ensures { slice_get self.now.first_columns d ≡ Some result }
+    {
+        self.first_columns[d as usize]
+    }
+
     /// A column by its number.
     pub fn column(&self, c: u32) -> &ColumnInfo
         requires { c < length self.now.column_infos }
@@ -111,8 +123,9 @@ impl Tables {
     }
 
     /// The number of the column of this field of this instance. `None` exactly where there is none.
+    /// All columns are looked through.
     pub fn find_column(&self, inst: &Name, field: &Name) -> Option<u32>
-        requires { length self.now.column_infos ≤ MAX_COLUMNS }
+        requires { length self.now.column_infos ≤ MAX_COLUMNS_OF_THREE }
         ensures { result ≡ position (is_column_named inst.now field.now) self.now.column_infos }
     {
         match column_place(&self.column_infos, inst, field) {
@@ -123,7 +136,22 @@ impl Tables {
 
     /// Adds a declaration that stands at `place`. `NoMemory` leaves the tables as they were.
     pub fn add(&mut self, decl: &Decl, place: u32) -> Result<(), NoMemory>
+        requires { length self.old.column_infos ≤ MAX_COLUMNS_OF_THREE }
         ensures ok { OnOk result (self.new ≡ tables_with self.old decl.now place) }
+        ensures err { OnErr result (self.new ≡ self.old) }
+    {
+        let first = self.column_infos.len() as u32;
+        push(&mut self.first_columns, first)?;
+        if let Err(error) = self.add_items(decl, place) {
+            let _ = self.first_columns.pop();
+            return Err(error);
+        }
+        Ok(())
+    }
+
+    /// Adds what a declaration brings.
+    fn add_items(&mut self, decl: &Decl, place: u32) -> Result<(), NoMemory>
+        ensures ok { OnOk result (self.new ≡ items_with self.old decl.now place) }
         ensures err { OnErr result (self.new ≡ self.old) }
     {
         match decl {

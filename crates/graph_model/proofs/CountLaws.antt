@@ -178,14 +178,15 @@ cells_with_decl g d f =
     omega arith
 
 -- quantities that are the same one by one
-abbrev counts : ℕ → ℕ → ℕ → ℕ → ℕ → ℕ → ℕ → ℕ → Counts
-counts t i c m l b n e = record { text = t; insts = i; columns = c; cells = m; locks = l; barriers = b; lines = n; edges = e }
+abbrev counts : ℕ → ℕ → ℕ → ℕ → ℕ → ℕ → ℕ → ℕ → ℕ → Counts
+counts t s i c m l b n e = record { text = t; spaces = s; insts = i; columns = c; cells = m; locks = l; barriers = b; lines = n; edges = e }
 
 pub counts_with_decl : (g : GraphValue) (d : Decl) → IsGraph g → counts_of (with_decl g d) ≡
-    counts (length (head g) + length (spelled (decl_words g d))) (length (filter is_inst g.decls) + length (filter is_inst (d ∷ []))) (length (columns g) + length (columns_of d)) (cell_count g + cells_of_decl g d)
+    counts (length (head g) + length (spelled (decl_words g d))) (length (named_spaces g) + length (filter_map space_of (d ∷ []))) (length (filter is_inst g.decls) + length (filter is_inst (d ∷ []))) (length (columns g) + length (columns_of d)) (cell_count g + cells_of_decl g d)
     (length (locks g) + length (filter_map lock_of (d ∷ []))) (length (barriers g) + length (filter_map barrier_of (d ∷ []))) (length g.lines) (length (edges g))
 counts_with_decl g d f =
     let t : length (head (with_decl g d)) ≡ length (head g) + length (spelled (decl_words g d)) = text_with_decl g d f in
+    let s : length (named_spaces (with_decl g d)) ≡ length (named_spaces g) + length (filter_map space_of (d ∷ [])) = ap length (filter_map-append space_of g.decls (d ∷ [])) ∙ length-append (named_spaces g) (filter_map space_of (d ∷ [])) in
     let i : length (filter is_inst (g.decls ++ d ∷ [])) ≡ length (filter is_inst g.decls) + length (filter is_inst (d ∷ [])) = ap length (filter-append is_inst g.decls (d ∷ [])) ∙ length-append (filter is_inst g.decls) (filter is_inst (d ∷ [])) in
     let c : length (columns (with_decl g d)) ≡ length (columns g) + length (columns_of d) = ap length (flat_map-append columns_of g.decls (d ∷ []) ∙ ap (λ l. columns g ++ l) (append-nil (columns_of d))) ∙ length-append (columns g) (columns_of d) in
     let m : cell_count (with_decl g d) ≡ cell_count g + cells_of_decl g d = cells_with_decl g d f in
@@ -194,7 +195,7 @@ counts_with_decl g d f =
     cc
 
 pub counts_with_line : (g : GraphValue) (l : Line) → counts_of (with_line g l) ≡
-    counts (length (head g) + length (spelled (line_words g l))) (length (filter is_inst g.decls)) (length (columns g)) (cell_count g) (length (locks g)) (length (barriers g)) (length g.lines + 1) (length (edges g) + length (line_edges g.lines l))
+    counts (length (head g) + length (spelled (line_words g l))) (length (named_spaces g)) (length (filter is_inst g.decls)) (length (columns g)) (cell_count g) (length (locks g)) (length (barriers g)) (length g.lines + 1) (length (edges g) + length (line_edges g.lines l))
 counts_with_line g l =
     let t : length (head (with_line g l)) ≡ length (head g) + length (spelled (line_words g l)) = ap length (head_with_line g l) ∙ length-append (head g) (spelled (line_words g l)) in
     let n : length (g.lines ++ l ∷ []) ≡ length g.lines + 1 = length-append g.lines (l ∷ []) in
@@ -257,16 +258,17 @@ line_words_size g l =
     omega arith
 
 -- quantities read, with those of one more item
-same_counts : (t t' i i' c c' m m' l l' b b' n n' e e' : ℕ) → t ≡ t' → i ≡ i' → c ≡ c' → m ≡ m' → l ≡ l' → b ≡ b' → n ≡ n' → e ≡ e' → counts t i c m l b n e ≡ counts t' i' c' m' l' b' n' e'
-same_counts t t' i i' c c' m m' l l' b b' n n' e e' p1 p2 p3 p4 p5 p6 p7 p8 = cc
+same_counts : (t t' s s' i i' c c' m m' l l' b b' n n' e e' : ℕ) → t ≡ t' → s ≡ s' → i ≡ i' → c ≡ c' → m ≡ m' → l ≡ l' → b ≡ b' → n ≡ n' → e ≡ e' → counts t s i c m l b n e ≡ counts t' s' i' c' m' l' b' n' e'
+same_counts t t' s s' i i' c c' m m' l l' b b' n n' e e' p1 p2 p3 p4 p5 p6 p7 p8 p9 = cc
 
-pub decl_counts_read : (g now : GraphValue) (d : Decl) (c : Counts) (t i k m l b : ℕ) → g ≡ now → IsGraph g → c ≡ counts_of g →
-    t ≡ length (spelled (decl_words now d)) → i ≡ length (filter is_inst (d ∷ [])) → k ≡ length (columns_of d) → m ≡ cells_of_decl now d → l ≡ length (filter_map lock_of (d ∷ [])) → b ≡ length (filter_map barrier_of (d ∷ [])) →
-    counts (c.text + t) (c.insts + i) (c.columns + k) (c.cells + m) (c.locks + l) (c.barriers + b) c.lines c.edges ≡ counts_of (with_decl now d)
-decl_counts_read g now d c t i k m l b same f e t_is i_is k_is m_is l_is b_is =
-    subst (λ (x : GraphValue). t ≡ length (spelled (decl_words x d)) → m ≡ cells_of_decl x d → counts (c.text + t) (c.insts + i) (c.columns + k) (c.cells + m) (c.locks + l) (c.barriers + b) c.lines c.edges ≡ counts_of (with_decl x d)) same
-    (λ t_here m_here. same_counts _ _ _ _ _ _ _ _ _ _ _ _ _ _ _ _
+pub decl_counts_read : (g now : GraphValue) (d : Decl) (c : Counts) (t s i k m l b : ℕ) → g ≡ now → IsGraph g → c ≡ counts_of g →
+    t ≡ length (spelled (decl_words now d)) → s ≡ length (filter_map space_of (d ∷ [])) → i ≡ length (filter is_inst (d ∷ [])) → k ≡ length (columns_of d) → m ≡ cells_of_decl now d → l ≡ length (filter_map lock_of (d ∷ [])) → b ≡ length (filter_map barrier_of (d ∷ [])) →
+    counts (c.text + t) (c.spaces + s) (c.insts + i) (c.columns + k) (c.cells + m) (c.locks + l) (c.barriers + b) c.lines c.edges ≡ counts_of (with_decl now d)
+decl_counts_read g now d c t s i k m l b same f e t_is s_is i_is k_is m_is l_is b_is =
+    subst (λ (x : GraphValue). t ≡ length (spelled (decl_words x d)) → m ≡ cells_of_decl x d → counts (c.text + t) (c.spaces + s) (c.insts + i) (c.columns + k) (c.cells + m) (c.locks + l) (c.barriers + b) c.lines c.edges ≡ counts_of (with_decl x d)) same
+    (λ t_here m_here. same_counts _ _ _ _ _ _ _ _ _ _ _ _ _ _ _ _ _ _
     (sums c.text (length (head g)) t _ (ap (λ (x : Counts). x.text) e) t_here)
+    (sums c.spaces (length (named_spaces g)) s _ (ap (λ (x : Counts). x.spaces) e) s_is)
     (sums c.insts (length (filter is_inst g.decls)) i _ (ap (λ (x : Counts). x.insts) e) i_is)
     (sums c.columns (length (columns g)) k _ (ap (λ (x : Counts). x.columns) e) k_is)
     (sums c.cells (cell_count g) m _ (ap (λ (x : Counts). x.cells) e) m_here)
@@ -279,12 +281,12 @@ decl_counts_read g now d c t i k m l b same f e t_is i_is k_is m_is l_is b_is =
     sums a a' b b' p q = ap (λ x. x + b) p ∙ ap (λ x. a' + x) q
 
 pub line_counts_read : (g now : GraphValue) (l : Line) (c : Counts) (t n : ℕ) → g ≡ now → c ≡ counts_of g → t ≡ length (spelled (line_words now l)) → n ≡ length (line_edges g.lines l) →
-    counts (c.text + t) c.insts c.columns c.cells c.locks c.barriers (c.lines + 1) (c.edges + n) ≡ counts_of (with_line now l)
+    counts (c.text + t) c.spaces c.insts c.columns c.cells c.locks c.barriers (c.lines + 1) (c.edges + n) ≡ counts_of (with_line now l)
 line_counts_read g now l c t n same e t_is n_is =
-    subst (λ (x : GraphValue). t ≡ length (spelled (line_words x l)) → counts (c.text + t) c.insts c.columns c.cells c.locks c.barriers (c.lines + 1) (c.edges + n) ≡ counts_of (with_line x l)) same
-    (λ t_here. same_counts _ _ _ _ _ _ _ _ _ _ _ _ _ _ _ _
+    subst (λ (x : GraphValue). t ≡ length (spelled (line_words x l)) → counts (c.text + t) c.spaces c.insts c.columns c.cells c.locks c.barriers (c.lines + 1) (c.edges + n) ≡ counts_of (with_line x l)) same
+    (λ t_here. same_counts _ _ _ _ _ _ _ _ _ _ _ _ _ _ _ _ _ _
     (sums c.text (length (head g)) t _ (ap (λ (x : Counts). x.text) e) t_here)
-    (ap (λ (x : Counts). x.insts) e) (ap (λ (x : Counts). x.columns) e) (ap (λ (x : Counts). x.cells) e) (ap (λ (x : Counts). x.locks) e) (ap (λ (x : Counts). x.barriers) e)
+    (ap (λ (x : Counts). x.spaces) e) (ap (λ (x : Counts). x.insts) e) (ap (λ (x : Counts). x.columns) e) (ap (λ (x : Counts). x.cells) e) (ap (λ (x : Counts). x.locks) e) (ap (λ (x : Counts). x.barriers) e)
     (ap (λ (x : Counts). x.lines + 1) e)
     (sums c.edges (length (edges g)) n _ (ap (λ (x : Counts). x.edges) e) n_is)
     ∙ sym (counts_with_line g l)) t_is

@@ -1,4 +1,5 @@
 pub mod TableLaws
+pub mod ColumnLaws
 pub mod Naming
 pub mod RowLaws
 pub mod RowReads

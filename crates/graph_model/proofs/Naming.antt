@@ -241,3 +241,7 @@ found_is_used g q (Some x) m = used_by (is_used g q) (stands_not_unused g q x m)
     used_by : (b : Bool) → (b ≡ false → ⊥) → true ≡ b
     used_by true h = refl
     used_by false h = absurd (h refl)
+
+-- the same names, however they are kept
+pub names_same : (g : GraphValue) (before after : NamesValue) → AreNamesOf g before → ((q : List ℕ) → named after q ≡ named before q) → AreNamesOf g after
+names_same g before after a same = record { each = λ q. subst (λ o. MatchOption o (is_used g q ≡ false) (StandsFor g q)) (sym (same q)) (a.each q) }

@@ -83,27 +83,27 @@ names_below_by v n h = tt
 pub names_below : (g : GraphValue) (l : Line) → line_fault g l ≡ None → NamesBelow (length g.lines) l.verb
 names_below g l h = names_below_by l.verb (length g.lines) (λ k c. named_below g l h k (Contains-append_left (named_lines l.verb) l.on k c))
 
-all_or_none : (b : Bool) (w : ℕ) → w ≤ 8192 → cond b w 0 ≤ 8192
+all_or_none : (b : Bool) (w : ℕ) → w ≤ 65536 → cond b w 0 ≤ 65536
 all_or_none true w h = h
 all_or_none false w h = omega arith
 
-most_few : (f : Format) → most_weight f ≤ 8192
+most_few : (f : Format) → most_weight f ≤ 65536
 most_few One = omega arith
 most_few f = omega arith
 
 -- an arrival that fits counts for no more than a barrier may ask for
-weight_few : (f : Format) (p : ℕ) (v : Verb) → verb_misnumbered f v ≡ false → arrival_weight p v ≤ 8192
+weight_few : (f : Format) (p : ℕ) (v : Verb) → verb_misnumbered f v ≡ false → arrival_weight p v ≤ 65536
 weight_few f p (Arrive q v w) h =
     let most : w ≤ most_weight f = ltb-false (most_weight f) w (or_parts (nat_lt w 1) (nat_lt (most_weight f) w) h).1 in
-    let few : most_weight f ≤ 8192 = most_few f in
+    let few : most_weight f ≤ 65536 = most_few f in
     all_or_none (q == p) w (omega arith)
 weight_few f p v h = omega arith
 
-pub line_weight_few : (g : GraphValue) (l : Line) (p : ℕ) → line_fault g l ≡ None → arrival_weight p l.verb ≤ 8192
+pub line_weight_few : (g : GraphValue) (l : Line) (p : ℕ) → line_fault g l ≡ None → arrival_weight p l.verb ≤ 65536
 line_weight_few g l p h = weight_few g.format p l.verb (none_first (line_tests g l) h (verb_misnumbered g.format l.verb, why.Number) (3, omega arith, refl))
 
 -- what the arrivals at a line count for is bounded
-pub few_arrivals : (g : GraphValue) → IsGraph g → (p : ℕ) → arrivals g p ≤ length g.lines * 8192
-few_arrivals g f p = sum_by-le (λ (l : Line). arrival_weight p l.verb) 8192 g.lines (λ k d below.
+pub few_arrivals : (g : GraphValue) → IsGraph g → (p : ℕ) → arrivals g p ≤ length g.lines * 65536
+few_arrivals g f p = sum_by-le (λ (l : Line). arrival_weight p l.verb) 65536 g.lines (λ k d below.
     let fit = fit_at g.format g.decls [] g.lines f.lines k (get_or g.lines k d) (slice_get-get_or g.lines k d below) in
     line_weight_few (record { format = g.format; decls = g.decls; lines = fit.0 }) (get_or g.lines k d) p fit.1)

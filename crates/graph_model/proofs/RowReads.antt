@@ -26,11 +26,11 @@ into_read g now rows i es same a h = sym (get_or_from_slice_get rows.into i es [
 pub from_read : (g now : GraphValue) (rows : RowsValue) (i : ℕ) (es : List Edge) → g ≡ now → AreRowsOf g rows → slice_get rows.from i ≡ Some es → es ≡ edges_out_of now i
 from_read g now rows i es same a h = sym (get_or_from_slice_get rows.from i es [] h) ∙ (a.from i ∙ ap (λ x. edges_out_of x i) same)
 
-pub few_marked : (g : GraphValue) (rows : RowsValue) (l : Line) → IsGraph g → AreRowsOf g rows → length g.lines ≤ 8192 → line_fault g l ≡ None → (i : ℕ) → (mark_at rows.marks i).arrivals + arrival_weight i l.verb < 2 ^ 32
+pub few_marked : (g : GraphValue) (rows : RowsValue) (l : Line) → IsGraph g → AreRowsOf g rows → length g.lines ≤ 65536 → line_fault g l ≡ None → (i : ℕ) → (mark_at rows.marks i).arrivals + arrival_weight i l.verb < 2 ^ 64
 few_marked g rows l f a h fits i =
     let same : (mark_at rows.marks i).arrivals ≡ (mark_of g i).arrivals = ap (λ (m : Mark). m.arrivals) (a.mark i) in
-    let few : (mark_of g i).arrivals ≤ length g.lines * 8192 = few_arrivals g f i in
-    let more : arrival_weight i l.verb ≤ 8192 = line_weight_few g l i fits in
+    let few : (mark_of g i).arrivals ≤ length g.lines * 65536 = few_arrivals g f i in
+    let more : arrival_weight i l.verb ≤ 65536 = line_weight_few g l i fits in
     omega arith
 
 -- the verb of a line that is read

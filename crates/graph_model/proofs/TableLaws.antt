@@ -6,7 +6,7 @@ use Rattle.std.specs.Option.{option_map_or}
 use Rattle.std.proofs.lemmas.Bool.{or_parts, ltb-false}
 use Rattle.std.proofs.lemmas.Option.{none-some, same_Some, slice_get_within, slice_get_read, slice_get-get_or}
 use Rattle.std.proofs.lemmas.Grind.{flat_map-append}
-use Rattle.std.proofs.lemmas.List.{append-nil}
+use Rattle.std.proofs.lemmas.List.{append-nil, length-append}
 use Rattle.std.proofs.lemmas.List.Elements.{filter_map-append}
 use Rattle.graph_terms.specs.declared.decl.Decl.{Decl}
 use Rattle.graph_terms.specs.declared.decl.Decl.TheVariants.{Space, Inst, Lock, Barrier}
@@ -15,11 +15,12 @@ use Rattle.graph_terms.specs.declared.why.Why.TheVariants as why
 use Rattle.graph_terms.specs.Graph.{GraphValue, space_of, columns_of, lock_of, barrier_of, named_spaces, columns, locks, barriers}
 use Rattle.graph_terms.specs.declared.decl.ColumnInfo.{ColumnInfo}
 use Rattle.graph_terms.specs.declared.decl.BarrierInfo.{BarrierInfo}
-use Rattle.graph_terms.specs.Fits.{is_inst, is_large, is_beyond, cell_count, names_many, decl_tests, decl_fault, line_tests, line_fault, with_decl, with_line}
+use Rattle.graph_terms.specs.Fits.{is_inst, is_large, has_many_spaces, is_beyond, cell_count, names_many, decl_tests, decl_fault, line_tests, line_fault, with_decl, with_line}
 use Rattle.graph_terms.specs.Edges.{edges}
+use Rattle.graph_terms.specs.Limits.{limits, limits_of_three, AllowsNoMore}
 use Rattle.graph_terms.specs.Spelling.{head}
-use Rattle.graph_indexes.specs.Tables.{TablesValue, places_of, tables_of, tables_with, IsWithinLimits}
-use Rattle.graph_terms.proofs.Public.{none_first, long_head}
+use Rattle.graph_indexes.specs.Tables.{TablesValue, places_of, firsts_of, tables_of, tables_with, IsWithinLimits}
+use Rattle.graph_terms.proofs.Public.{none_first, long_head, most_limits}
 
 cons_before : (o : Option ℕ) (a b c : List ℕ) → a ≡ b ++ c → cons_option o a ≡ cons_option o b ++ c
 cons_before None a b c e = e
@@ -30,14 +31,26 @@ places_push : {X Y : Type 0} (f : X → Option Y) (n : ℕ) (xs : List X) (x : X
 places_push f n [] x = ap (λ k. places_of f k (x ∷ [])) (let e : n ≡ n + 0 = omega arith in e)
 places_push f n (y ∷ ys) x = cons_before (option_map (λ z. n) (f y)) _ _ _ (places_push f (n + 1) ys x ∙ ap (λ k. places_of f (n + 1) ys ++ places_of f k (x ∷ [])) (let e : (n + 1) + length ys ≡ n + suc (length ys) = omega arith in e))
 
-made : List ℕ → List ColumnInfo → List (List ℕ) → List BarrierInfo → TablesValue
-made s c l b = record { space_places = s; column_infos = c; lock_names = l; barrier_infos = b }
+firsts_push : (n : ℕ) (ds : List Decl) (d : Decl) → firsts_of n (ds ++ d ∷ []) ≡ firsts_of n ds ++ (n + length (flat_map columns_of ds)) ∷ []
+firsts_push n [] d = ap (λ k. k ∷ []) (let e : n ≡ n + 0 = omega arith in e)
+firsts_push n (x ∷ xs) d =
+    let both : length (columns_of x ++ flat_map columns_of xs) ≡ length (columns_of x) + length (flat_map columns_of xs) = length-append (columns_of x) (flat_map columns_of xs) in
+    let e : (n + length (columns_of x)) + length (flat_map columns_of xs) ≡ n + length (columns_of x ++ flat_map columns_of xs) = omega (arith, both) in
+    ap (λ l. n ∷ l) (firsts_push (n + length (columns_of x)) xs d ∙ ap (λ k. firsts_of (n + length (columns_of x)) xs ++ k ∷ []) e)
+
+pub length-firsts : (n : ℕ) (ds : List Decl) → length (firsts_of n ds) ≡ length ds
+length-firsts n [] = refl
+length-firsts n (d ∷ ds) = ap suc (length-firsts (n + length (columns_of d)) ds)
+
+made : List ℕ → List ℕ → List ColumnInfo → List (List ℕ) → List BarrierInfo → TablesValue
+made s f c l b = record { space_places = s; first_columns = f; column_infos = c; lock_names = l; barrier_infos = b }
 
 -- the tables with one more declaration
 pub tables_push : (ds : List Decl) (d : Decl) → tables_of (ds ++ d ∷ []) ≡ tables_with (tables_of ds) d (length ds)
 tables_push ds d =
     let s : places_of space_of 0 (ds ++ d ∷ []) ≡ places_of space_of 0 ds ++ places_of space_of (length ds) (d ∷ []) =
     places_push space_of 0 ds d ∙ ap (λ k. places_of space_of 0 ds ++ places_of space_of k (d ∷ [])) (omega arith) in
+    let f : firsts_of 0 (ds ++ d ∷ []) ≡ firsts_of 0 ds ++ length (flat_map columns_of ds) ∷ [] = firsts_push 0 ds d ∙ ap (λ k. firsts_of 0 ds ++ k ∷ []) (omega arith) in
     let c : flat_map columns_of (ds ++ d ∷ []) ≡ flat_map columns_of ds ++ columns_of d =
     flat_map-append columns_of ds (d ∷ []) ∙ ap (λ l. flat_map columns_of ds ++ l) (append-nil (columns_of d)) in
     let l : filter_map lock_of (ds ++ d ∷ []) ≡ filter_map lock_of ds ++ filter_map lock_of (d ∷ []) = filter_map-append lock_of ds (d ∷ []) in
@@ -113,26 +126,31 @@ length-filter_map : {X Y : Type 0} (f : X → Option Y) (xs : List X) → length
 length-filter_map f [] = omega arith
 length-filter_map f (x ∷ xs) = let h : length (filter_map f xs) ≤ length xs = length-filter_map f xs in let k : length (cons_option (f x) (filter_map f xs)) ≤ suc (length (filter_map f xs)) = length-cons_option (f x) (filter_map f xs) in omega arith
 
+-- a quantity that is not above the greatest of its format is not above that of format 3
+below_most : (most n top : ℕ) → most ≤ top → nat_lt most n ≡ false → n ≤ top
+below_most most n top m h = let b : n ≤ most = ltb-false most n h in omega arith
+
 -- a graph of which no quantity is too great
 pub within_limits : (g : GraphValue) → is_beyond g ≡ false → IsWithinLimits g
 within_limits g h =
-    let text = or_parts (nat_lt 1048576 (length (head g))) _ h in
-    let short : length (head g) ≤ 1048576 = ltb-false 1048576 (length (head g)) text.0 in
-    let insts = or_parts (nat_lt 64 (length (filter is_inst g.decls))) _ text.1 in
-    let cols = or_parts (nat_lt 256 (length (columns g))) _ insts.1 in
-    let cells = or_parts (nat_lt 4194304 (cell_count g)) _ cols.1 in
-    let ls = or_parts (nat_lt 64 (length (locks g))) _ cells.1 in
-    let bs = or_parts (nat_lt 64 (length (barriers g))) _ ls.1 in
-    let lines = or_parts (nat_lt 8192 (length g.lines)) _ bs.1 in
-    limits_by g short (ltb-false 64 (length (filter is_inst g.decls)) insts.0) (ltb-false 256 (length (columns g)) cols.0) (ltb-false 4194304 (cell_count g) cells.0)
-    (ltb-false 64 (length (locks g)) ls.0) (ltb-false 64 (length (barriers g)) bs.0) (ltb-false 8192 (length g.lines) lines.0) (ltb-false 65536 (length (edges g)) lines.1)
+    let most : AllowsNoMore (limits g.format) limits_of_three = most_limits g.format in
+    let text = or_parts (nat_lt (limits g.format).text (length (head g))) _ h in
+    let spaces = or_parts (has_many_spaces g) _ text.1 in
+    let insts = or_parts (nat_lt (limits g.format).insts (length (filter is_inst g.decls))) _ spaces.1 in
+    let cols = or_parts (nat_lt (limits g.format).columns (length (columns g))) _ insts.1 in
+    let cells = or_parts (nat_lt (limits g.format).cells (cell_count g)) _ cols.1 in
+    let ls = or_parts (nat_lt (limits g.format).locks (length (locks g))) _ cells.1 in
+    let bs = or_parts (nat_lt (limits g.format).barriers (length (barriers g))) _ ls.1 in
+    let lines = or_parts (nat_lt (limits g.format).lines (length g.lines)) _ bs.1 in
+    limits_by g (below_most _ _ _ most.text text.0) (below_most _ _ _ most.insts insts.0) (below_most _ _ _ most.columns cols.0) (below_most _ _ _ most.cells cells.0)
+    (below_most _ _ _ most.locks ls.0) (below_most _ _ _ most.barriers bs.0) (below_most _ _ _ most.lines lines.0) (below_most _ _ _ most.edges lines.1)
   where
-    limits_by : (g : GraphValue) → length (head g) ≤ 1048576 → length (filter is_inst g.decls) ≤ 64 → length (columns g) ≤ 256 → cell_count g ≤ 4194304 →
-        length (locks g) ≤ 64 → length (barriers g) ≤ 64 → length g.lines ≤ 8192 → length (edges g) ≤ 65536 → IsWithinLimits g
+    limits_by : (g : GraphValue) → length (head g) ≤ 16777216 → length (filter is_inst g.decls) ≤ 1024 → length (columns g) ≤ 4096 → cell_count g ≤ 16777216 →
+        length (locks g) ≤ 1024 → length (barriers g) ≤ 1024 → length g.lines ≤ 65536 → length (edges g) ≤ 524288 → IsWithinLimits g
     limits_by g text i c m l b n e =
         let long : 1 + length g.decls + length g.lines ≤ length (head g) = long_head g in
         let some : length (named_spaces g) ≤ length g.decls = length-filter_map space_of g.decls in
-        let ds : length g.decls ≤ 1048576 = omega arith in
+        let ds : length g.decls ≤ 16777216 = omega arith in
         record { few_decls = ds; few_lines = n; few_spaces = omega arith; few_columns = c; few_locks = l; few_barriers = b; short_text = text; few_insts = i; few_cells = m; few_edges = e }
 
 -- the table gives the place of each space
@@ -174,7 +192,7 @@ space_decl_is xs s d known gives =
 
 -- a graph with one more declaration, and with one more line, is within the limits
 pub limits_decl : (g : GraphValue) (d : Decl) → decl_fault g d ≡ None → IsWithinLimits (with_decl g d)
-limits_decl g d h = within_limits (with_decl g d) (or_parts (is_large d) _ (none_first (decl_tests g d) h (is_large d || is_beyond (with_decl g d), why.Limit) (3, omega arith, refl))).1
+limits_decl g d h = within_limits (with_decl g d) (or_parts (is_large g.format d) _ (none_first (decl_tests g d) h (is_large g.format d || is_beyond (with_decl g d), why.Limit) (3, omega arith, refl))).1
 
 pub limits_line : (g : GraphValue) (l : Line) → line_fault g l ≡ None → IsWithinLimits (with_line g l)
 limits_line g l h = within_limits (with_line g l) (or_parts (names_many g.format l.verb l.on) _ (none_first (line_tests g l) h (names_many g.format l.verb l.on || is_beyond (with_line g l), why.Limit) (6, omega arith, refl))).1

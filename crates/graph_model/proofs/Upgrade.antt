@@ -1,5 +1,5 @@
 -- A graph of a later format with the declarations and lines of another: it is a graph, its text is as long, and what is kept beside it stays.
-use Rattle.std.proofs.Common.{◌≡◌, ℕ, ◌+◌, ◌≤◌, Bool, true, false, ◌||◌, List, [], ◌∷◌, ◌++◌, length, map, refl, sym, ◌∙◌, ap, subst, length-append, arith}
+use Rattle.std.proofs.Common.{◌≡◌, ℕ, ◌+◌, ◌≤◌, Bool, true, false, ◌&&◌, ◌||◌, List, [], ◌∷◌, ◌++◌, length, map, refl, sym, ◌∙◌, ap, subst, length-append, arith}
 use Rattle.std.specs.Prelude.{Option, Some, None, codes, nat_lt, nat_le, nat_eq, filter, MatchOption}
 use Rattle.std.specs.Option.{option_map_or}
 use Rattle.std.specs.List.{list_any}
@@ -18,20 +18,23 @@ use Rattle.graph_terms.specs.declared.verb.Verb.{Verb}
 use Rattle.graph_terms.specs.declared.verb.Verb.TheVariants.{Merge, MergeIgnore, Arrive}
 use Rattle.graph_terms.specs.declared.why.Why.{Why}
 use Rattle.graph_terms.specs.declared.why.Why.TheVariants as why
+use Rattle.index_spaces.specs.Space.{space_size}
+use Rattle.graph_terms.specs.declared.limits.TheConstants.{MAX_TEXT, MAX_SPACES}
+use Rattle.graph_terms.specs.Limits.{limits, AllowsNoMore}
 use Rattle.graph_terms.specs.Format.{has_since}
-use Rattle.graph_terms.specs.Graph.{GraphValue, written_in, decl_name, columns, locks, barriers}
+use Rattle.graph_terms.specs.Graph.{GraphValue, written_in, decl_name, named_spaces, columns, locks, barriers}
 use Rattle.graph_terms.specs.Edges.{edges}
 use Rattle.graph_terms.specs.Table.{verb_kind, verb_placed, kind_words, any_placed}
 use Rattle.graph_terms.specs.Access.{verb_accesses}
 use Rattle.graph_terms.specs.Spelling.{spelled, decl_words, place_word, verb_words, on_words, line_words, header, decls_text, lines_text, head}
-use Rattle.graph_terms.specs.Fits.{first_reason, is_inst, cell_count, is_used, decl_repeats, decl_unknown, decl_misnumbered, is_large, named_lines, repeats, decl_fault, place_repeats, verb_repeats, place_unknown, place_unlike, verb_unlike, on_unlike, most_weight, verb_misnumbered, access_unknown, arrives_late, names_many, format_lacks, is_beyond, line_tests, line_fault, DeclsFit, LinesFit, IsGraph}
+use Rattle.graph_terms.specs.Fits.{first_reason, is_inst, cell_count, has_many_spaces, decl_tests, is_used, decl_repeats, decl_unknown, decl_misnumbered, is_large, named_lines, repeats, decl_fault, place_repeats, verb_repeats, place_unknown, place_unlike, verb_unlike, on_unlike, most_weight, verb_misnumbered, access_unknown, arrives_late, names_many, format_lacks, is_beyond, line_tests, line_fault, DeclsFit, LinesFit, IsGraph}
 use Rattle.graph_terms.specs.Names.{StandsFor}
 use Rattle.graph_indexes.specs.Names.{AreNamesOf, NamesValue, named}
 use Rattle.graph_indexes.specs.Rows.{RowsValue, AreRowsOf}
 use Rattle.graph_indexes.specs.Tables.{IsWithinLimits}
 use Rattle.graph_indexes.specs.declared.counts.Counts.{Counts}
 use Rattle.graph_indexes.specs.Counts.{counts_of}
-use Rattle.graph_terms.proofs.Public.{none_first, kind_fits, later_verbs, later_events, later_many, later_names, later_decls}
+use Rattle.graph_terms.proofs.Public.{none_first, kind_fits, later_verbs, later_events, later_many, later_names, later_decls, later_limits}
 
 -- the same declarations and lines in a format
 abbrev of : Format → List Decl → List Line → GraphValue
@@ -93,31 +96,70 @@ heads_alike f h ds ls =
     let b : length (header h) ≡ 8 = header_length h in
     omega arith
 
--- a limit is passed in one format where it is in another
-beyond_alike : (f h : Format) (ds : List Decl) (ls : List Line) → is_beyond (of f ds ls) ≡ is_beyond (of h ds ls)
-beyond_alike f h ds ls =
+-- no limit is passed in a later format where none is in an earlier
+no_more : (a b n : ℕ) → a ≤ b → nat_lt a n ≡ false → nat_lt b n ≡ false
+no_more a b n m h = let k : n ≤ a = ltb-false a n h in le-ltb b n (omega (arith, m, k))
+
+within_later : (f h : Format) → has_since f h ≡ true → (ds : List Decl) (ls : List Line) → is_beyond (of f ds ls) ≡ false → is_beyond (of h ds ls) ≡ false
+within_later f h since ds ls e =
     let g : GraphValue = of f ds ls in
-    ap (λ n. nat_lt 1048576 n || (nat_lt 64 (length (filter is_inst ds)) || (nat_lt 256 (length (columns g)) || (nat_lt 4194304 (cell_count g)
-    || (nat_lt 64 (length (locks g)) || (nat_lt 64 (length (barriers g)) || (nat_lt 8192 (length ls) || nat_lt 65536 (length (edges g)))))))))
-    (heads_alike f h ds ls)
+    let more : AllowsNoMore (limits f) (limits h) = later_limits f h since in
+    let text = or_parts (nat_lt (limits f).text (length (head g))) _ e in
+    let spaces = or_parts (has_many_spaces g) _ text.1 in
+    let insts = or_parts (nat_lt (limits f).insts (length (filter is_inst ds))) _ spaces.1 in
+    let cols = or_parts (nat_lt (limits f).columns (length (columns g))) _ insts.1 in
+    let cells = or_parts (nat_lt (limits f).cells (cell_count g)) _ cols.1 in
+    let rs = or_parts (nat_lt (limits f).locks (length (locks g))) _ cells.1 in
+    let bs = or_parts (nat_lt (limits f).barriers (length (barriers g))) _ rs.1 in
+    let lines = or_parts (nat_lt (limits f).lines (length ls)) _ bs.1 in
+    or_from _ _ (ap (nat_lt (limits h).text) (heads_alike h f ds ls) ∙ no_more _ _ _ more.text text.0)
+    (or_from _ _ (ap (λ n. nat_lt MAX_SPACES (length (named_spaces g)) && nat_lt MAX_TEXT n) (heads_alike h f ds ls) ∙ spaces.0)
+    (or_from _ _ (no_more _ _ _ more.insts insts.0)
+    (or_from _ _ (no_more _ _ _ more.columns cols.0)
+    (or_from _ _ (no_more _ _ _ more.cells cells.0)
+    (or_from _ _ (no_more _ _ _ more.locks rs.0)
+    (or_from _ _ (no_more _ _ _ more.barriers bs.0)
+    (or_from _ _ (no_more _ _ _ more.lines lines.0) (no_more _ _ _ more.edges lines.1))))))))
 
 -- the tests of a declaration
 unknown_alike : (f h : Format) (ds : List Decl) (d : Decl) → decl_unknown (of f ds []) d ≡ decl_unknown (of h ds []) d
 unknown_alike f h ds (decl.Inst name space fields) = refl
 unknown_alike f h ds d = refl
 
-decl_faults_alike : (f h : Format) (ds : List Decl) (d : Decl) → decl_fault (of f ds []) d ≡ decl_fault (of h ds []) d
-decl_faults_alike f h ds d =
-    ap (λ b. decl_reasons (is_used (of f ds []) (decl_name d) || decl_repeats d) b (decl_misnumbered d) (is_large d || is_beyond (of f (ds ++ d ∷ []) []))) (unknown_alike f h ds d)
-    ∙ ap (λ b. decl_reasons (is_used (of f ds []) (decl_name d) || decl_repeats d) (decl_unknown (of h ds []) d) (decl_misnumbered d) (is_large d || b)) (beyond_alike f h (ds ++ d ∷ []) [])
+counts_fit : (f h : Format) → has_since f h ≡ true → (d : Decl) → decl_misnumbered f d ≡ false → decl_misnumbered h d ≡ false
+counts_fit f h since (decl.Inst name space fields) e = e
+counts_fit f h since (decl.Barrier name count op first) e =
+    let parts = or_parts (nat_lt count 1) (nat_lt (limits f).count count) e in
+    or_from (nat_lt count 1) (nat_lt (limits h).count count) parts.0 (no_more (limits f).count (limits h).count count (later_limits f h since).count parts.1)
+counts_fit f h since d e = refl
+
+sizes_fit : (f h : Format) → has_since f h ≡ true → (d : Decl) → is_large f d ≡ false → is_large h d ≡ false
+sizes_fit f h since (decl.Space name space) e =
+    let parts = or_parts (nat_lt (limits f).space.intervals (length space)) (nat_lt (limits f).space.points (space_size space)) e in
+    let more : AllowsNoMore (limits f) (limits h) = later_limits f h since in
+    or_from _ _ (no_more _ _ (length space) more.intervals parts.0) (no_more _ _ (space_size space) more.points parts.1)
+sizes_fit f h since d e = refl
+
+decl_fits_in : (f h : Format) → has_since f h ≡ true → (ds : List Decl) (d : Decl) → decl_fault (of f ds []) d ≡ None → decl_fault (of h ds []) d ≡ None
+decl_fits_in f h since ds d fits =
+    let g : GraphValue = of f ds [] in
+    let beyond : Bool = is_beyond (of f (ds ++ d ∷ []) []) in
+    let number : decl_misnumbered f d ≡ false = none_first (decl_tests g d) fits (decl_misnumbered f d, why.Number) (2, omega arith, refl) in
+    let limit : (is_large f d || beyond) ≡ false = none_first (decl_tests g d) fits (is_large f d || beyond, why.Limit) (3, omega arith, refl) in
+    let parts = or_parts (is_large f d) beyond limit in
+    let limit_later : (is_large h d || is_beyond (of h (ds ++ d ∷ []) [])) ≡ false =
+    or_from _ _ (sizes_fit f h since d parts.0) (within_later f h since (ds ++ d ∷ []) [] parts.1) in
+    decl_reasons_same (is_used g (decl_name d) || decl_repeats d) _ _ _ _ _ _ (unknown_alike h f ds d) (counts_fit f h since d number ∙ sym number) (limit_later ∙ sym limit) ∙ fits
   where
-    decl_reasons : Bool → Bool → Bool → Bool → Option Why
-    decl_reasons a b c e = first_reason ((a, why.Twice) ∷ (b, why.Unknown) ∷ (c, why.Number) ∷ (e, why.Limit) ∷ [])
+    decl_reasons_same : (a b b' c c' e e' : Bool) → b ≡ b' → c ≡ c' → e ≡ e' →
+        first_reason ((a, why.Twice) ∷ (b, why.Unknown) ∷ (c, why.Number) ∷ (e, why.Limit) ∷ [])
+        ≡ first_reason ((a, why.Twice) ∷ (b', why.Unknown) ∷ (c', why.Number) ∷ (e', why.Limit) ∷ [])
+    decl_reasons_same a b b' c c' e e' p q r = cc
 
 decls_fit_in : (f h : Format) → has_since f h ≡ true → (before ds : List Decl) → DeclsFit f before ds → DeclsFit h before ds
 decls_fit_in f h since before [] fits = tt
 decls_fit_in f h since before (d ∷ ds) fits =
-    (fits.0, sym (decl_faults_alike f h before d) ∙ fits.1, decls_fit_in f h since (before ++ d ∷ []) ds fits.2, later_decls f h since d fits.3)
+    (fits.0, decl_fits_in f h since before d fits.1, decls_fit_in f h since (before ++ d ∷ []) ds fits.2, later_decls f h since d fits.3)
 
 -- the tests of a line
 places_repeat : (f h : Format) (ds : List Decl) (ls : List Line) → place_repeats (of f ds ls) ≡ place_repeats (of h ds ls)
@@ -157,6 +199,7 @@ weights One Two s = omega arith
 weights One Three s = omega arith
 weights Two One s = absurd (false≢true s)
 weights Three One s = absurd (false≢true s)
+weights Three Two s = absurd (false≢true s)
 weights f h s = omega arith
 
 numbers_fit : (f h : Format) → has_since f h ≡ true → (v : Verb) → verb_misnumbered f v ≡ false → verb_misnumbered h v ≡ false
@@ -182,7 +225,9 @@ line_fits_in f h since ds ls l fits =
     let lacks : format_lacks f l.verb ≡ false = kind.2 in
     let beyond : Bool = is_beyond (of f ds (ls ++ l ∷ [])) in
     let limit : (names_many f l.verb l.on || beyond) ≡ false = none_first (line_tests g l) fits (names_many f l.verb l.on || beyond, why.Limit) (6, omega arith, refl) in
-    let few : names_many f l.verb l.on ≡ false = (or_parts (names_many f l.verb l.on) beyond limit).0 in
+    let few = or_parts (names_many f l.verb l.on) beyond limit in
+    let limit_later : (names_many h l.verb l.on || is_beyond (of h ds (ls ++ l ∷ []))) ≡ false =
+    or_from _ _ (later_many f h since l.verb l.on few.0) (within_later f h since ds (ls ++ l ∷ []) few.1) in
     line_reasons_same _ _ _ _ _ _ _ _ _ _ _ _ _ _
     (ap (λ b. is_used g l.name || (b || numbers_repeat)) (sym (verbs_repeat f h ds ls l.verb)))
     (ap (λ (t : Place → ℕ → Bool). lines_unknown || (any_placed t (verb_placed l.verb) || reaches_unknown)) (sym (places_unknown f h ds ls)))
@@ -192,8 +237,7 @@ line_fits_in f h since ds ls l fits =
     (later ∙ sym number)
     refl
     (sym (arrive_late f h ds ls l.verb))
-    (ap (λ b. b || is_beyond (of h ds (ls ++ l ∷ []))) (later_many f h since l.verb l.on few ∙ sym few)
-    ∙ ap (λ b. names_many f l.verb l.on || b) (beyond_alike h f ds (ls ++ l ∷ [])))
+    (limit_later ∙ sym limit)
     ∙ fits
   where
     line_reasons_same : (a a' b b' c c' d d' e e' x x' y y' : Bool) → a ≡ a' → b ≡ b' → c ≡ c' → d ≡ d' → e ≡ e' → x ≡ x' → y ≡ y' →
@@ -219,7 +263,7 @@ written_limits h g w = record {
   few_columns = w.few_columns;
   few_locks = w.few_locks;
   few_barriers = w.few_barriers;
-  short_text = subst (λ n. n ≤ 1048576) (heads_alike g.format h g.decls g.lines) w.short_text;
+  short_text = subst (λ n. n ≤ 16777216) (heads_alike g.format h g.decls g.lines) w.short_text;
   few_insts = w.few_insts;
   few_cells = w.few_cells;
   few_edges = w.few_edges;
@@ -247,7 +291,7 @@ pub written_counts : (h : Format) (g : GraphValue) → counts_of g ≡ counts_of
 written_counts h g = ap (λ n. with_text n (counts_of g)) (heads_alike g.format h g.decls g.lines)
   where
     with_text : ℕ → Counts → Counts
-    with_text n c = record { text = n; insts = c.insts; columns = c.columns; cells = c.cells; locks = c.locks; barriers = c.barriers; lines = c.lines; edges = c.edges }
+    with_text n c = record { text = n; spaces = c.spaces; insts = c.insts; columns = c.columns; cells = c.cells; locks = c.locks; barriers = c.barriers; lines = c.lines; edges = c.edges }
 
 -- the quantities of a graph without items
 pub empty_counts : (f : Format) → counts_of (of One [] []) ≡ counts_of (of f [] [])

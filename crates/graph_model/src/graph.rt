@@ -3,13 +3,12 @@
 pub(crate) mod edges;
 mod faults;
 mod quantities;
-pub(crate) mod repeats;
 mod sizes;
 pub(crate) mod words;
 
-ghost use Rattle.std.specs.Prelude.{◌≡◌};
+ghost use Rattle.std.specs.Prelude.{◌≡◌, ◌≤◌, Some, position, IfSome};
+ghost use Rattle.std.specs.Str.{bytes_eq};
 ghost use Rattle.graph_terms.specs.Graph.{upgraded_format};
-ghost use Rattle.graph_terms.specs.Fits.{most_events};
 
 use crate::graph::edges::list_edges;
 use graph_indexes::counts::Counts;
@@ -22,7 +21,7 @@ use graph_terms::decl::{BarrierInfo, Decl};
 use graph_terms::format::Format;
 use graph_terms::found::Found;
 use graph_terms::limits::{
-    MAX_BARRIERS, MAX_COLUMNS, MAX_EVENTS, MAX_EVENTS_OF_THREE, MAX_LINES, MAX_LOCKS,
+    MAX_BARRIERS_OF_THREE, MAX_COLUMNS_OF_THREE, MAX_LINES_OF_THREE, MAX_LOCKS_OF_THREE,
 };
 use graph_terms::name::Name;
 use graph_terms::verb::{Access, Edge, Line, Verb};
@@ -36,6 +35,7 @@ use std::marker::Model;
 /// The quantities of the graph without items: its text is the first line.
 const EMPTY: Counts = Counts {
     text: 8,
+    spaces: 0,
     insts: 0,
     columns: 0,
     cells: 0,
@@ -116,7 +116,7 @@ impl Graph {
     ghost use Rattle.graph_terms.specs.Access.{accesses, verb_accesses, kept_accesses};
     ghost use Rattle.std.specs.Option.{option_map_or};
     ghost use Rattle.graph_indexes.specs.Counts.{counts_of};
-    ghost use Rattle.graph_terms.specs.Names.{StandsFor, found_decl, is_column_named};
+    ghost use Rattle.graph_terms.specs.Names.{StandsFor, found_decl, is_inst_named, is_column_named};
     ghost use Rattle.graph_terms.specs.Fits.{IsGraph, IsDecl, is_decl_named, IsLine, decl_fault, line_fault, with_decl, with_line, is_used};
 
     /// The graph of format 1 with no declaration and no line. It takes no memory.
@@ -278,7 +278,7 @@ impl Graph {
     /// How many lines there are.
     pub fn lines(&self) -> u32
         ensures number { result ≡ length self.now.lines }
-        ensures few { result ≤ MAX_LINES }
+        ensures few { result ≤ MAX_LINES_OF_THREE }
         ensures is_graph { IsGraph self.now }
     {
         self.lines.len() as u32
@@ -314,7 +314,7 @@ impl Graph {
     /// How many columns there are: the fields of all instances.
     pub fn columns(&self) -> u32
         ensures number { result ≡ length (columns self.now) }
-        ensures few { result ≤ MAX_COLUMNS }
+        ensures few { result ≤ MAX_COLUMNS_OF_THREE }
     {
         self.tables.columns() as u32
     }
@@ -341,7 +341,7 @@ impl Graph {
     /// How many reservations are declared.
     pub fn locks(&self) -> u32
         ensures number { result ≡ length (locks self.now) }
-        ensures few { result ≤ MAX_LOCKS }
+        ensures few { result ≤ MAX_LOCKS_OF_THREE }
     {
         self.tables.locks() as u32
     }
@@ -349,7 +349,7 @@ impl Graph {
     /// How many barriers are declared.
     pub fn barriers(&self) -> u32
         ensures number { result ≡ length (barriers self.now) }
-        ensures few { result ≤ MAX_BARRIERS }
+        ensures few { result ≤ MAX_BARRIERS_OF_THREE }
     {
         self.tables.barriers() as u32
     }
@@ -390,7 +390,26 @@ impl Graph {
     pub fn find_column(&self, inst: &Name, field: &Name) -> Option<u32>
         ensures { result ≡ position (is_column_named inst.now field.now) (columns self.now) }
     {
+        if let Some(Found::Inst(d)) = self.find(inst) {
+            if let Some(c) = self.column_of(d, inst, field) {
+                return Some(c);
+            }
+        }
         self.tables.find_column(inst, field)
+    }
+
+    /// The number of the column of this field of the instance of this name, which declaration `d` is.
+    fn column_of(&self, d: u32, inst: &Name, field: &Name) -> Option<u32>
+        requires { position (is_inst_named inst.now) self.now.decls ≡ Some d }
+        ensures { IfSome result (λ c. position (is_column_named inst.now field.now) (columns self.now) ≡ Some c) }
+    {
+        match &self.decls[d as usize] {
+            Decl::Inst { fields, .. } => match field_place(fields.items.as_slice(), field) {
+                Some(place) => Some(self.tables.first_column(d) + place),
+                None => None,
+            },
+            _ => None,
+        }
     }
 
     /// The edges that enter a line, by the lines that give them.
@@ -440,7 +459,7 @@ impl Graph {
         match &self.lines[i as usize].verb {
             Verb::User => !self.rows.mark(i).ended,
             Verb::Phase { barrier } => self.rows.mark(i).arrivals
-                < self.tables.barrier(*barrier).count,
+                < u64::from(self.tables.barrier(*barrier).count),
             _ => false,
         }
     }
@@ -482,7 +501,8 @@ impl Graph {
 
     /// What later lines have done to a line.
     fn mark(&self, i: u32) -> Mark
-        ensures { result ≡ mark_of self.now i }
+        ensures mark { result ≡ mark_of self.now i }
+        ensures few { result.arrivals ≤ 4294967296 }
     {
         self.rows.mark(i)
     }
@@ -500,6 +520,22 @@ impl Graph {
     }
 }
 
+/// The place of a name among the fields of an instance, where it is below that of the most columns.
+fn field_place(fields: &[Name], wanted: &Name) -> Option<u32>
+    ensures { IfSome result (λ place. (place ≤ MAX_COLUMNS_OF_THREE) × (position (λ f. bytes_eq f wanted.now) fields.now ≡ Some place)) }
+{
+    match name_place(fields, wanted) {
+        Some(place) if place <= MAX_COLUMNS_OF_THREE as usize => Some(place as u32),
+        _ => None,
+    }
+}
+
+fn name_place(names: &[Name], wanted: &Name) -> Option<usize>
+    ensures { result ≡ position (λ n. bytes_eq n wanted.now) names.now }
+{
+    names.iter().position(|name| *name == *wanted)
+}
+
 /// The format in which a graph of this format is written anew.
 fn upgraded_format(format: Format) -> Format
     ensures { result ≡ upgraded_format format }
@@ -507,15 +543,5 @@ fn upgraded_format(format: Format) -> Format
     match format {
         Format::Three => Format::Three,
         _ => Format::Two,
-    }
-}
-
-/// The most events of a merge in a format, and the most behind `on`.
-pub fn most_events(format: Format) -> u32
-    ensures { result ≡ most_events format }
-{
-    match format {
-        Format::Three => MAX_EVENTS_OF_THREE,
-        _ => MAX_EVENTS,
     }
 }

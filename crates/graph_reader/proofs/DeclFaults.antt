@@ -1,6 +1,6 @@
 -- What refuses the words of a declaration.
 use Rattle.std.proofs.Common.{append-nil, length-append, inr, ◌⊎◌, ◌≡◌, ℕ, ◌+◌, ◌<◌, Bool, true, false, cond, not, ◌&&◌, ◌||◌, List, [], ◌∷◌, length, refl, sym, ◌∙◌, ap, subst, inl, arith}
-use Rattle.std.specs.Prelude.{Option, Some, None, Result, Ok, Err, is_some, unwrap_or, position, bytes_eq, nat_lt, nat_le, flat_map}
+use Rattle.std.specs.Prelude.{Option, Some, None, Result, Ok, Err, is_some, unwrap_or, position, bytes_eq, nat_lt, nat_le, flat_map, filter}
 use Rattle.std.specs.Option.{option_map_or}
 use Rattle.std.specs.List.{list_all}
 use Rattle.std.proofs.lemmas.Bool.{lt-ltb, le-ltb, or_right, or_left, ltb-true, ltb-false, le-leb, lt-leb, cond-true, cond-false}
@@ -12,17 +12,20 @@ use Rattle.graph_terms.specs.declared.why.Why.{Why}
 use Rattle.graph_terms.specs.declared.why.Why.TheVariants as why
 use Rattle.graph_terms.specs.Graph.{GraphValue, named_spaces, columns, columns_of}
 use Rattle.index_spaces.specs.Space.{space_size}
+use Rattle.index_spaces.specs.declared.limits.SpaceLimits.{SpaceLimits}
+use Rattle.graph_terms.specs.Limits.{limits}
 use Rattle.std.proofs.lemmas.Option.{none-some, same_Some}
 use Rattle.std.proofs.lemmas.Grind.{flat_map-append}
 use Rattle.std.proofs.lemmas.List.{length-map}
 use Rattle.graph_terms.specs.Name.{is_name_in}
-use Rattle.graph_terms.specs.Fits.{first_reason, repeats, is_used, decl_fault, is_beyond, with_decl}
+use Rattle.graph_terms.specs.Spelling.{head}
+use Rattle.graph_terms.specs.Fits.{first_reason, repeats, is_used, decl_fault, is_inst, has_many_spaces, is_beyond, with_decl}
 use Rattle.graph_words.specs.Words.{pieces, count_of, value_of, intervals_of, ascend_from, is_fields}
 use Rattle.graph_words.specs.Draft.{Draft, NewName, SpaceName, space_with, inst_with, lock_with, barrier_with, space_number}
 use Rattle.graph_reader.specs.FirstFault.{draft_tests, draft_fault, or_else, unlike, item_fault}
 use Rattle.index_spaces.specs.declared.space.SpaceFault.{SpaceFault}
 use Rattle.index_spaces.specs.declared.space.SpaceFault.TheVariants as spaces
-use Rattle.index_spaces.specs.SpaceFault.{first_misplaced, space_fault, or_too_large}
+use Rattle.index_spaces.specs.SpaceFault.{first_misplaced, space_fault_in, or_too_large}
 use Rattle.graph_reader.proofs.Places.{IsFine}
 use Rattle.graph_reader.proofs.Drafts.{fine_words}
 use Rattle.graph_reader.proofs.Owners.{position_below}
@@ -57,12 +60,12 @@ and_no false = refl
 pub fine_name : (g : GraphValue) (name : List ℕ) → is_name_in g.format name ≡ true → is_used g name ≡ false → IsFine g NewName name
 fine_name g name h u = record { named = ap not h; once = u; known = refl; alike = refl; numbered = refl; ordered = refl }
 
-pub barrier_is : (g : GraphValue) (name new arrivals first : List ℕ) (op : Op) (count value : ℕ) → is_name_in g.format name ≡ true → new ≡ name → is_used g name ≡ false → count_of arrivals ≡ Some count → value_of first ≡ Some value →
-    (draft_fault g (barrier_with name arrivals op first) ≡ decl_fault g (decl.Barrier new count op value)) × ((barrier_with name arrivals op first).item ≡ inl (decl.Barrier new count op value))
+pub barrier_is : (g : GraphValue) (name new arrivals first : List ℕ) (op : Op) (count value : ℕ) → is_name_in g.format name ≡ true → new ≡ name → is_used g name ≡ false → count_of g.format arrivals ≡ Some count → value_of first ≡ Some value →
+    (draft_fault g (barrier_with g.format name arrivals op first) ≡ decl_fault g (decl.Barrier new count op value)) × ((barrier_with g.format name arrivals op first).item ≡ inl (decl.Barrier new count op value))
 barrier_is g name new arrivals first op count value h e u c v =
-    let i : (barrier_with name arrivals op first).item ≡ inl (decl.Barrier new count op value) =
+    let i : (barrier_with g.format name arrivals op first).item ≡ inl (decl.Barrier new count op value) =
     ap (λ o. as_barrier name (unwrap_or o 0) op (unwrap_or (value_of first) 0)) c ∙ (ap (λ o. as_barrier name count op (unwrap_or o 0)) v ∙ ap (λ n. as_barrier n count op value) (sym e)) in (
-      fine_words g (barrier_with name arrivals op first) (
+      fine_words g (barrier_with g.format name arrivals op first) (
         fine_name g name h u,
         (
           record { named = refl; once = refl; known = refl; alike = refl; numbered = ap (λ o. not (is_some o)) c; ordered = refl },
@@ -104,8 +107,8 @@ of_order : (k low : ℕ) (is : List (ℕ × ℕ)) (e : SpaceFault) → first_mis
 of_order k low [] e h = absurd (none-some e h)
 of_order k low (i ∷ is) e h = order_by k (i.1 + 2) is (nat_lt i.1 i.0) (nat_lt i.0 low) e h (of_order (k + 1) (i.1 + 2) is e)
 
-abbrev has_large : List (ℕ × ℕ) → Bool
-has_large is = nat_lt 64 (length is) || nat_lt 1048576 (space_size is)
+abbrev has_large : SpaceLimits → List (ℕ × ℕ) → Bool
+has_large m is = nat_lt m.intervals (length is) || nat_lt m.points (space_size is)
 
 large_by : (a b : Bool) (e : SpaceFault) → cond a (Some spaces.Many) (cond b (Some spaces.Large) None) ≡ Some e → (kind e ≡ 1) × ((a || b) ≡ true)
 large_by true b e h = (ap kind (sym (same_Some spaces.Many e h)), refl)
@@ -113,32 +116,32 @@ large_by false true e h = (ap kind (sym (same_Some spaces.Large e h)), refl)
 large_by false false e h = absurd (none-some e h)
 
 -- what a fault of intervals says
-abbrev Faulty : List (ℕ × ℕ) → SpaceFault → Type 0
-Faulty is e = ((kind e ≡ 0) × (ascend_from 0 is ≡ false)) ⊎ ((kind e ≡ 1) × (ascend_from 0 is ≡ true) × (has_large is ≡ true))
+abbrev Faulty : SpaceLimits → List (ℕ × ℕ) → SpaceFault → Type 0
+Faulty m is e = ((kind e ≡ 0) × (ascend_from 0 is ≡ false)) ⊎ ((kind e ≡ 1) × (ascend_from 0 is ≡ true) × (has_large m is ≡ true))
 
-faulty_by : (is : List (ℕ × ℕ)) (o : Option SpaceFault) (e : SpaceFault) → first_misplaced 0 0 is ≡ o → or_too_large o is ≡ Some e → Faulty is e
-faulty_by is (Some f) e h k = inl (of_order 0 0 is e (h ∙ k), ascends_where 0 0 is (Some f) h)
-faulty_by is None e h k = let l = large_by (nat_lt 64 (length is)) (nat_lt 1048576 (space_size is)) e k in inr (l.0, ascends_where 0 0 is None h, l.1)
+faulty_by : (m : SpaceLimits) (is : List (ℕ × ℕ)) (o : Option SpaceFault) (e : SpaceFault) → first_misplaced 0 0 is ≡ o → or_too_large m o is ≡ Some e → Faulty m is e
+faulty_by m is (Some f) e h k = inl (of_order 0 0 is e (h ∙ k), ascends_where 0 0 is (Some f) h)
+faulty_by m is None e h k = let l = large_by (nat_lt m.intervals (length is)) (nat_lt m.points (space_size is)) e k in inr (l.0, ascends_where 0 0 is None h, l.1)
 
-faulty : (is : List (ℕ × ℕ)) (e : SpaceFault) → (is ≡ [] → ⊥) → space_fault is ≡ Some e → Faulty is e
-faulty [] e some h = absurd (some refl)
-faulty (i ∷ is) e some h = faulty_by (i ∷ is) (first_misplaced 0 0 (i ∷ is)) e refl h
+faulty : (m : SpaceLimits) (is : List (ℕ × ℕ)) (e : SpaceFault) → (is ≡ [] → ⊥) → space_fault_in m is ≡ Some e → Faulty m is e
+faulty m [] e some h = absurd (some refl)
+faulty m (i ∷ is) e some h = faulty_by m (i ∷ is) (first_misplaced 0 0 (i ∷ is)) e refl h
 
-faultless_by : (is : List (ℕ × ℕ)) (o : Option SpaceFault) → first_misplaced 0 0 is ≡ o → or_too_large o is ≡ None → ascend_from 0 is ≡ true
-faultless_by is (Some f) h k = absurd (none-some f (sym k))
-faultless_by is None h k = ascends_where 0 0 is None h
+faultless_by : (m : SpaceLimits) (is : List (ℕ × ℕ)) (o : Option SpaceFault) → first_misplaced 0 0 is ≡ o → or_too_large m o is ≡ None → ascend_from 0 is ≡ true
+faultless_by m is (Some f) h k = absurd (none-some f (sym k))
+faultless_by m is None h k = ascends_where 0 0 is None h
 
-faultless : (is : List (ℕ × ℕ)) → space_fault is ≡ None → ascend_from 0 is ≡ true
-faultless [] h = absurd (none-some spaces.Empty (sym h))
-faultless (i ∷ is) h = faultless_by (i ∷ is) (first_misplaced 0 0 (i ∷ is)) refl h
+faultless : (m : SpaceLimits) (is : List (ℕ × ℕ)) → space_fault_in m is ≡ None → ascend_from 0 is ≡ true
+faultless m [] h = absurd (none-some spaces.Empty (sym h))
+faultless m (i ∷ is) h = faultless_by m (i ∷ is) (first_misplaced 0 0 (i ∷ is)) refl h
 
 -- a space that is too large is above its limit
 abbrev beyond_with : GraphValue → Decl → Bool
 beyond_with g d = is_beyond (with_decl g d)
 
-space_limit : (g : GraphValue) (name : List ℕ) (is : List (ℕ × ℕ)) → is_used g name ≡ false → has_large is ≡ true → decl_fault g (decl.Space name is) ≡ Some why.Limit
+space_limit : (g : GraphValue) (name : List ℕ) (is : List (ℕ × ℕ)) → is_used g name ≡ false → has_large (limits g.format).space is ≡ true → decl_fault g (decl.Space name is) ≡ Some why.Limit
 space_limit g name is u l =
-    ap (λ b. first_reason ((b || false, why.Twice) ∷ (false, why.Unknown) ∷ (false, why.Number) ∷ (has_large is || beyond_with g (decl.Space name is), why.Limit) ∷ [])) u
+    ap (λ b. first_reason ((b || false, why.Twice) ∷ (false, why.Unknown) ∷ (false, why.Number) ∷ (has_large (limits g.format).space is || beyond_with g (decl.Space name is), why.Limit) ∷ [])) u
     ∙ ap (λ b. first_reason ((false, why.Twice) ∷ (false, why.Unknown) ∷ (false, why.Number) ∷ (b || beyond_with g (decl.Space name is), why.Limit) ∷ [])) l
 
 reason_false : (g : GraphValue) (name : List ℕ) (is : List (ℕ × ℕ)) → ascend_from 0 is ≡ false → space_reason g name is ≡ Some why.Space
@@ -147,7 +150,7 @@ reason_false g name is h = cond-false (ascend_from 0 is) (decl_fault g (decl.Spa
 reason_true : (g : GraphValue) (name : List ℕ) (is : List (ℕ × ℕ)) → ascend_from 0 is ≡ true → space_reason g name is ≡ decl_fault g (decl.Space name is)
 reason_true g name is h = cond-true (ascend_from 0 is) (decl_fault g (decl.Space name is)) (Some why.Space) h
 
-space_err_by : (g : GraphValue) (name : List ℕ) (is : List (ℕ × ℕ)) (e : SpaceFault) → is_used g name ≡ false → Faulty is e → IsDeclBy (space_reason g name is) (decl.Space name is) (Err (space_error e))
+space_err_by : (g : GraphValue) (name : List ℕ) (is : List (ℕ × ℕ)) (e : SpaceFault) → is_used g name ≡ false → Faulty (limits g.format).space is e → IsDeclBy (space_reason g name is) (decl.Space name is) (Err (space_error e))
 space_err_by g name is (spaces.Reversed k) u (inl f) = reason_false g name is f.1
 space_err_by g name is (spaces.Order k) u (inl f) = reason_false g name is f.1
 space_err_by g name is spaces.Many u (inl f) = absurd (omega (arith, f.0))
@@ -177,11 +180,11 @@ memory_err g name is spaces.Large h = absurd (omega (arith, h))
 memory_err g name is spaces.Empty h = absurd (omega (arith, h))
 memory_err g name is spaces.NoMemory h = tt
 
-pub space_err : (g : GraphValue) (name : List ℕ) (is : List (ℕ × ℕ)) (e : SpaceFault) → is_used g name ≡ false → (is ≡ [] → ⊥) → ((e ≡ spaces.NoMemory → ⊥) → space_fault is ≡ Some e) → IsDeclBy (space_reason g name is) (decl.Space name is) (Err (space_error e))
-space_err g name is e u some h = elim (unlike_memory e) [ inl m ↦ memory_err g name is e m | inr n ↦ space_err_by g name is e u (faulty is e some (h n)) ]
+pub space_err : (g : GraphValue) (name : List ℕ) (is : List (ℕ × ℕ)) (e : SpaceFault) → is_used g name ≡ false → (is ≡ [] → ⊥) → ((e ≡ spaces.NoMemory → ⊥) → space_fault_in (limits g.format).space is ≡ Some e) → IsDeclBy (space_reason g name is) (decl.Space name is) (Err (space_error e))
+space_err g name is e u some h = elim (unlike_memory e) [ inl m ↦ memory_err g name is e m | inr n ↦ space_err_by g name is e u (faulty (limits g.format).space is e some (h n)) ]
 
-pub space_ok : (g : GraphValue) (name : List ℕ) (is s : List (ℕ × ℕ)) (result : Result Decl ItemError) → s ≡ is → space_fault is ≡ None → IsDeclBy (decl_fault g (decl.Space name s)) (decl.Space name s) result → IsDeclBy (space_reason g name is) (decl.Space name is) result
-space_ok g name is s result e f h = subst (λ r. IsDeclBy r (decl.Space name is) result) (sym (reason_true g name is (faultless is f))) (subst (λ x. IsDeclBy (decl_fault g (decl.Space name x)) (decl.Space name x) result) e h)
+pub space_ok : (g : GraphValue) (name : List ℕ) (is s : List (ℕ × ℕ)) (result : Result Decl ItemError) → s ≡ is → space_fault_in (limits g.format).space is ≡ None → IsDeclBy (decl_fault g (decl.Space name s)) (decl.Space name s) result → IsDeclBy (space_reason g name is) (decl.Space name is) result
+space_ok g name is s result e f h = subst (λ r. IsDeclBy r (decl.Space name is) result) (sym (reason_true g name is (faultless (limits g.format).space is f))) (subst (λ x. IsDeclBy (decl_fault g (decl.Space name x)) (decl.Space name x) result) e h)
 
 abbrev as_space : List ℕ → List (ℕ × ℕ) → Decl ⊎ Line
 as_space name is = inl (decl.Space name is)
@@ -263,17 +266,21 @@ column_count g name space fields =
     ∙ (length-append (columns g) (flat_map columns_of (decl.Inst name space fields ∷ []))
     ∙ ap (λ n. length (columns g) + n) (ap length (append-nil (columns_of (decl.Inst name space fields))) ∙ length-map fields _))
 
+-- more columns than the format allows
+many_columns : (g : GraphValue) → (limits g.format).columns < length (columns g) → is_beyond g ≡ true
+many_columns g l = or_right (nat_lt (limits g.format).text (length (head g))) _ (or_right (has_many_spaces g) _ (or_right (nat_lt (limits g.format).insts (length (filter is_inst g.decls))) _
+    (or_left (nat_lt (limits g.format).columns (length (columns g))) _ (lt-ltb (limits g.format).columns (length (columns g)) l))))
+
 -- more fields than a graph may have columns
-pub fields_limit : (g : GraphValue) (name : List ℕ) (space : List ℕ) (fields : List (List ℕ)) → is_used g name ≡ false → repeats bytes_eq fields ≡ false → space_number g space < length (named_spaces g) → 256 < length fields → decl_fault g (inst_decl g name space fields) ≡ Some why.Limit
+pub fields_limit : (g : GraphValue) (name : List ℕ) (space : List ℕ) (fields : List (List ℕ)) → is_used g name ≡ false → repeats bytes_eq fields ≡ false → space_number g space < length (named_spaces g) → (limits g.format).columns < length fields → decl_fault g (inst_decl g name space fields) ≡ Some why.Limit
 fields_limit g name space fields u r s l =
     ap (λ b. first_reason ((b || repeats bytes_eq fields, why.Twice) ∷ (nat_le (length (named_spaces g)) (space_number g space), why.Unknown) ∷ (nat_lt (length fields) 1, why.Number) ∷ (beyond_with g (inst_decl g name space fields), why.Limit) ∷ [])) u
     ∙ (ap (λ b. first_reason ((b, why.Twice) ∷ (nat_le (length (named_spaces g)) (space_number g space), why.Unknown) ∷ (nat_lt (length fields) 1, why.Number) ∷ (beyond_with g (inst_decl g name space fields), why.Limit) ∷ [])) r
     ∙ (ap (λ b. first_reason ((false, why.Twice) ∷ (b, why.Unknown) ∷ (nat_lt (length fields) 1, why.Number) ∷ (beyond_with g (inst_decl g name space fields), why.Limit) ∷ [])) (lt-leb (length (named_spaces g)) (space_number g space) s)
     ∙ (ap (λ b. first_reason ((false, why.Twice) ∷ (false, why.Unknown) ∷ (b, why.Number) ∷ (beyond_with g (inst_decl g name space fields), why.Limit) ∷ [])) (le-ltb (length fields) 1 (omega arith))
-    ∙ ap (λ b. first_reason ((false, why.Twice) ∷ (false, why.Unknown) ∷ (false, why.Number) ∷ (b, why.Limit) ∷ [])) many_columns)))
-  where
-    many_columns : beyond_with g (inst_decl g name space fields) ≡ true
-    many_columns = or_right _ _ (or_right _ _ (or_left _ _ (lt-ltb 256 (length (columns (with_decl g (inst_decl g name space fields)))) (let n : length (columns (with_decl g (inst_decl g name space fields))) ≡ length (columns g) + length fields = column_count g name (space_number g space) fields in omega arith))))
+    ∙ ap (λ b. first_reason ((false, why.Twice) ∷ (false, why.Unknown) ∷ (false, why.Number) ∷ (b, why.Limit) ∷ []))
+    (many_columns (with_decl g (inst_decl g name space fields))
+    (let n : length (columns (with_decl g (inst_decl g name space fields))) ≡ length (columns g) + length fields = column_count g name (space_number g space) fields in omega arith)))))
 
 abbrev space_place : GraphValue → List ℕ → Option ℕ
 space_place g w = position (λ (x : List ℕ × List (ℕ × ℕ)). bytes_eq x.0 w) (named_spaces g)
@@ -295,6 +302,6 @@ pub inst_ok : (g : GraphValue) (name space : List ℕ) (fields : List (List ℕ)
 inst_ok g name space fields s result r u p h = subst (λ x. IsDeclBy x (inst_decl g name space fields) result) (sym (inst_left g name space fields s r u p))
     (subst (λ n. IsDeclBy (decl_fault g (decl.Inst name n fields)) (decl.Inst name n fields) result) (sym (inst_number g space s p)) h)
 
-pub inst_many : (g : GraphValue) (name space : List ℕ) (fields : List (List ℕ)) (s : ℕ) → is_used g name ≡ false → repeats bytes_eq fields ≡ false → is_used g space ≡ true → space_place g space ≡ Some s → 256 < length fields → inst_reason g name space fields ≡ Some why.Limit
+pub inst_many : (g : GraphValue) (name space : List ℕ) (fields : List (List ℕ)) (s : ℕ) → is_used g name ≡ false → repeats bytes_eq fields ≡ false → is_used g space ≡ true → space_place g space ≡ Some s → (limits g.format).columns < length fields → inst_reason g name space fields ≡ Some why.Limit
 inst_many g name space fields s n r u p l = inst_left g name space fields s r u p ∙ fields_limit g name space fields n r
     (let e : space_number g space ≡ s = inst_number g space s p in let b : s < length (named_spaces g) = position_below (λ (x : List ℕ × List (ℕ × ℕ)). bytes_eq x.0 space) (named_spaces g) s p in omega arith) l

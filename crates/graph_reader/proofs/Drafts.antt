@@ -38,7 +38,7 @@ or_else_none None b h = (refl, h)
 or_else_none (Some w) b h = absurd (none-some w (sym h))
 
 each_fine : (g : GraphValue) (ps : List Placed) → AllByRecursion (λ (p : Placed). misnamed g.format p.0 p.1 ≡ false) ps → AllByRecursion (λ (p : Placed). twice g p.0 p.1 ≡ false) ps → AllByRecursion (λ (p : Placed). unknown g p.0 p.1 ≡ false) ps →
-    AllByRecursion (λ (p : Placed). unlike g p.0 p.1 ≡ false) ps → AllByRecursion (λ (p : Placed). misnumbered p.0 p.1 ≡ false) ps → AllByRecursion (λ (p : Placed). misordered p.0 p.1 ≡ false) ps → EachFine g ps
+    AllByRecursion (λ (p : Placed). unlike g p.0 p.1 ≡ false) ps → AllByRecursion (λ (p : Placed). misnumbered g.format p.0 p.1 ≡ false) ps → AllByRecursion (λ (p : Placed). misordered p.0 p.1 ≡ false) ps → EachFine g ps
 each_fine g [] a b c d e f = tt
 each_fine g (p ∷ ps) a b c d e f = (record { named = a.0; once = b.0; known = c.0; alike = d.0; numbered = e.0; ordered = f.0 }, each_fine g ps a.1 b.1 c.1 d.1 e.1 f.1)
 
@@ -50,7 +50,7 @@ fine_draft g d h =
     let v = or_parts (repeats bytes_eq (event_words d.placed)) (repeats bytes_eq (column_words d.placed)) u.1 in
     record {
       each = each_fine g d.placed (each_from_none (λ (p : Placed). misnamed g.format p.0 p.1) d.placed t.0) (each_from_none (λ (p : Placed). twice g p.0 p.1) d.placed u.0) (each_from_none (λ (p : Placed). unknown g p.0 p.1) d.placed t.1.1.0)
-          (each_from_none (λ (p : Placed). unlike g p.0 p.1) d.placed t.1.1.1.0) (each_from_none (λ (p : Placed). misnumbered p.0 p.1) d.placed t.1.1.1.1.0) (each_from_none (λ (p : Placed). misordered p.0 p.1) d.placed t.1.1.1.1.1.0);
+          (each_from_none (λ (p : Placed). unlike g p.0 p.1) d.placed t.1.1.1.0) (each_from_none (λ (p : Placed). misnumbered g.format p.0 p.1) d.placed t.1.1.1.1.0) (each_from_none (λ (p : Placed). misordered p.0 p.1) d.placed t.1.1.1.1.1.0);
       events = v.0;
       columns = v.1;
       item = o.1;
@@ -73,7 +73,7 @@ fine_words g d each events columns =
           (
             fine_none g (unlike g) (λ p w k. k.alike) d.placed each,
             (
-              fine_none g misnumbered (λ p w k. k.numbered) d.placed each,
+              fine_none g (misnumbered g.format) (λ p w k. k.numbered) d.placed each,
               (fine_none g misordered (λ p w k. k.ordered) d.placed each, tt),
             ),
           ),

@@ -67,10 +67,10 @@ fails t ps = list_any (λ (p : Placed). t p.0 p.1) ps
 -- the tests of words of which the first is a new name
 reason_by : (g : GraphValue) (d : Draft) (name : List ℕ) (ps : List Placed) (e c : Bool) → d.placed ≡ (NewName, name) ∷ ps → is_name_in g.format name ≡ true → repeats bytes_eq (event_words ps) ≡ e →
     repeats bytes_eq (column_words ps) ≡ c → fails misordered ps ≡ false →
-    first_reason (draft_tests g d) ≡ first_reason ((fails (misnamed g.format) ps, why.Name) ∷ (is_used g name || (fails (twice g) ps || (e || c)), why.Twice) ∷ (fails (unknown g) ps, why.Unknown) ∷ (fails (unlike g) ps, why.Kind) ∷ (fails misnumbered ps, why.Number) ∷ [])
+    first_reason (draft_tests g d) ≡ first_reason ((fails (misnamed g.format) ps, why.Name) ∷ (is_used g name || (fails (twice g) ps || (e || c)), why.Twice) ∷ (fails (unknown g) ps, why.Unknown) ∷ (fails (unlike g) ps, why.Kind) ∷ (fails (misnumbered g.format) ps, why.Number) ∷ [])
 reason_by g d name ps e c placed n events columns ordered =
     ap (λ x. first_reason (draft_tests g (record { placed = x; item = d.item }))) placed
-    ∙ six_to_five (not (is_name_in g.format name) || fails (misnamed g.format) ps) (fails (misnamed g.format) ps) _ (is_used g name || (fails (twice g) ps || (e || c))) (fails (unknown g) ps) (fails (unlike g) ps) (fails misnumbered ps) (fails misordered ps)
+    ∙ six_to_five (not (is_name_in g.format name) || fails (misnamed g.format) ps) (fails (misnamed g.format) ps) _ (is_used g name || (fails (twice g) ps || (e || c))) (fails (unknown g) ps) (fails (unlike g) ps) (fails (misnumbered g.format) ps) (fails misordered ps)
     (ap (λ b. not b || fails (misnamed g.format) ps) n)
     (or_again (is_used g name) (fails (twice g) ps) _ ∙ (ap (λ x. is_used g name || (fails (twice g) ps || (x || repeats bytes_eq (column_words ps)))) events ∙ ap (λ x. is_used g name || (fails (twice g) ps || (e || x))) columns)) ordered
 
@@ -123,9 +123,9 @@ module _ (g : GraphValue) (kind : Kind) (name : List ℕ) (ws : List (List ℕ))
   read_as line n h e = (left_fault n h ∙ ap (line_fault g) (sym e), ap inr (sym e))
 
   module _ (f : Faults) (tell : AllTell g (form_placed g.format kind ws) f) where
-    later_is : first_reason ((fails (unknown g) (form_placed g.format kind ws), why.Unknown) ∷ (fails (unlike g) (form_placed g.format kind ws), why.Kind) ∷ (fails misnumbered (form_placed g.format kind ws), why.Number) ∷ []) ≡ later_reason f
-    later_is = ap (λ x. first_reason ((x, why.Unknown) ∷ (fails (unlike g) (form_placed g.format kind ws), why.Kind) ∷ (fails misnumbered (form_placed g.format kind ws), why.Number) ∷ [])) (sym tell.unknown)
-        ∙ (ap (λ x. first_reason ((f.unknown, why.Unknown) ∷ (x, why.Kind) ∷ (fails misnumbered (form_placed g.format kind ws), why.Number) ∷ [])) (sym tell.unlike)
+    later_is : first_reason ((fails (unknown g) (form_placed g.format kind ws), why.Unknown) ∷ (fails (unlike g) (form_placed g.format kind ws), why.Kind) ∷ (fails (misnumbered g.format) (form_placed g.format kind ws), why.Number) ∷ []) ≡ later_reason f
+    later_is = ap (λ x. first_reason ((x, why.Unknown) ∷ (fails (unlike g) (form_placed g.format kind ws), why.Kind) ∷ (fails (misnumbered g.format) (form_placed g.format kind ws), why.Number) ∷ [])) (sym tell.unknown)
+        ∙ (ap (λ x. first_reason ((f.unknown, why.Unknown) ∷ (x, why.Kind) ∷ (fails (misnumbered g.format) (form_placed g.format kind ws), why.Number) ∷ [])) (sym tell.unlike)
         ∙ ap (λ x. first_reason ((f.unknown, why.Unknown) ∷ (f.unlike, why.Kind) ∷ (x, why.Number) ∷ [])) (sym tell.misnumbered))
 
     -- where no word is misnamed, each event is spelled as a name

@@ -96,9 +96,9 @@ inst_read g ws a b c r l p q s h = subst (λ x. IsDeclOf g x r) (sym (inst_shape
     (subst (λ x. IsDeclRead g (inst_with g x (at ws 2) (at ws 3)) r) p (subst (λ x. IsDeclRead g (inst_with g a x (at ws 3)) r) q (subst (λ x. IsDeclRead g (inst_with g a b x) r) s h)))
 
 pub barrier_read : (g : GraphValue) (ws : List (List ℕ)) (a b c d : List ℕ) (op : Op) (r : Result Decl ItemError) → length ws ≡ 5 → a ≡ at ws 1 → b ≡ at ws 2 → c ≡ at ws 3 → d ≡ at ws 4 → op_of c ≡ Some op →
-    IsDeclRead g (barrier_with a b op d) r → IsDeclOf g (barrier_draft g (drop 1 ws)) r
-barrier_read g ws a b c d op r l p q s t o h = subst (λ x. IsDeclOf g x r) (sym (barrier_shape g ws l ∙ ap (option_map (λ x. barrier_with (at ws 1) (at ws 2) x (at ws 4))) (ap op_of (sym s) ∙ o)))
-    (subst (λ x. IsDeclRead g (barrier_with x (at ws 2) op (at ws 4)) r) p (subst (λ x. IsDeclRead g (barrier_with a x op (at ws 4)) r) q (subst (λ x. IsDeclRead g (barrier_with a b op x) r) t h)))
+    IsDeclRead g (barrier_with g.format a b op d) r → IsDeclOf g (barrier_draft g (drop 1 ws)) r
+barrier_read g ws a b c d op r l p q s t o h = subst (λ x. IsDeclOf g x r) (sym (barrier_shape g ws l ∙ ap (option_map (λ x. barrier_with g.format (at ws 1) (at ws 2) x (at ws 4))) (ap op_of (sym s) ∙ o)))
+    (subst (λ x. IsDeclRead g (barrier_with g.format x (at ws 2) op (at ws 4)) r) p (subst (λ x. IsDeclRead g (barrier_with g.format a x op (at ws 4)) r) q (subst (λ x. IsDeclRead g (barrier_with g.format a b op x) r) t h)))
 
 pub decl_barrier : (g : GraphValue) (ws : List (List ℕ)) (k : List ℕ) → k ≡ at ws 0 → bytes_eq k (codes "space") ≡ false → bytes_eq k (codes "inst") ≡ false → bytes_eq k (codes "lock") ≡ false → bytes_eq k (codes "barrier") ≡ true →
     decl_draft g ws ≡ barrier_draft g (drop 1 ws)

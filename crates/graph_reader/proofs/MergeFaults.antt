@@ -82,10 +82,10 @@ module _ (g : GraphValue) (name : List ℕ) (verb : List ℕ → Verb) (es : Lis
   pub merge_reason_is : is_name_in g.format name ≡ true → first_reason (draft_tests g (merge_with g name verb es)) ≡ merge_reason g name es
   unfolding merge_reason
   merge_reason_is n = six_to_four (not (is_name_in g.format name) || at_events (misnamed g.format)) (not (list_all (is_name_in g.format) es)) _ (is_used g name || repeats bytes_eq es) (at_events (unknown g)) (list_any (λ w. not (is_used g w)) es)
-      (at_events (unlike g)) (list_any (λ w. not (is_line_name g w)) es) (at_events misnumbered) (at_events misordered)
+      (at_events (unlike g)) (list_any (λ w. not (is_line_name g w)) es) (at_events (misnumbered g.format)) (at_events misordered)
       (ap (λ b. not b || at_events (misnamed g.format)) n ∙ (mapped (misnamed g.format) ∙ some_fail (is_name_in g.format) es))
       (or_merge (is_used g name) (at_events (twice g)) _ _ (mapped (twice g) ∙ none_of es) (ap (repeats bytes_eq) (events_no_columns es)) ∙ ap (λ x. is_used g name || repeats bytes_eq x) (events_listed es))
-      (mapped (unknown g)) (mapped (unlike g)) (mapped misnumbered ∙ none_of es) (mapped misordered ∙ none_of es)
+      (mapped (unknown g)) (mapped (unlike g)) (mapped (misnumbered g.format) ∙ none_of es) (mapped misordered ∙ none_of es)
 
   pub merge_refused : (w : Why) → is_name_in g.format name ≡ true → merge_reason g name es ≡ Some w → draft_fault g (merge_with g name verb es) ≡ Some w
   merge_refused w n h = ap (λ r. or_else r (item_fault g (merge_with g name verb es).item)) (merge_reason_is n ∙ h)

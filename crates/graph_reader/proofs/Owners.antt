@@ -71,8 +71,8 @@ listed f key agree w (d ∷ ds) h =
     listed_by f key agree w d ds p.0 (listed f key agree w ds p.1) (bytes_eq (decl_name d) w) refl
 
 -- an instance has a field
-abbrev IsFielded : Decl → Type 0
-IsFielded d = decl_misnumbered d ≡ false
+abbrev IsFielded : Format → Decl → Type 0
+IsFielded fm d = decl_misnumbered fm d ≡ false
 
 columns_by : (w : List ℕ) (name : List ℕ) (space : ℕ) (fields : List (List ℕ)) (b : Bool) → bytes_eq name w ≡ b → nat_lt (length fields) 1 ≡ false →
     list_any (λ (x : ColumnInfo). bytes_eq x.inst w) (map (λ f. record { inst = name; field = f; space = space }) fields) ≡ b
@@ -88,16 +88,16 @@ columns_by w name space (f ∷ k ∷ fs) b e h = ap (λ x. x || list_any (λ (x 
     or_same true = refl
     or_same false = refl
 
-decl_columns : (w : List ℕ) (d : Decl) → IsFielded d → list_any (λ (x : ColumnInfo). bytes_eq x.inst w) (columns_of d) ≡ (is_inst d && bytes_eq (decl_name d) w)
-decl_columns w (decl.Space name space) h = refl
-decl_columns w (decl.Inst name space fields) h = columns_by w name space fields (bytes_eq name w) refl h
-decl_columns w (decl.Lock name) h = refl
-decl_columns w (decl.Barrier name count op first) h = refl
+decl_columns : (fm : Format) (w : List ℕ) (d : Decl) → IsFielded fm d → list_any (λ (x : ColumnInfo). bytes_eq x.inst w) (columns_of d) ≡ (is_inst d && bytes_eq (decl_name d) w)
+decl_columns fm w (decl.Space name space) h = refl
+decl_columns fm w (decl.Inst name space fields) h = columns_by w name space fields (bytes_eq name w) refl h
+decl_columns fm w (decl.Lock name) h = refl
+decl_columns fm w (decl.Barrier name count op first) h = refl
 
 -- the name of an instance is the name of a column's instance
-insts_listed : (w : List ℕ) (ds : List Decl) → AllByRecursion IsFielded ds → list_any (λ (x : ColumnInfo). bytes_eq x.inst w) (flat_map columns_of ds) ≡ list_any (is_inst_named w) ds
-insts_listed w [] h = refl
-insts_listed w (d ∷ ds) h = list_any-append (λ (x : ColumnInfo). bytes_eq x.inst w) (columns_of d) (flat_map columns_of ds) ∙ (ap (λ x. x || list_any (λ (x : ColumnInfo). bytes_eq x.inst w) (flat_map columns_of ds)) (decl_columns w d h.0) ∙ ap (λ x. is_inst_named w d || x) (insts_listed w ds h.1))
+insts_listed : (fm : Format) (w : List ℕ) (ds : List Decl) → AllByRecursion (IsFielded fm) ds → list_any (λ (x : ColumnInfo). bytes_eq x.inst w) (flat_map columns_of ds) ≡ list_any (is_inst_named w) ds
+insts_listed fm w [] h = refl
+insts_listed fm w (d ∷ ds) h = list_any-append (λ (x : ColumnInfo). bytes_eq x.inst w) (columns_of d) (flat_map columns_of ds) ∙ (ap (λ x. x || list_any (λ (x : ColumnInfo). bytes_eq x.inst w) (flat_map columns_of ds)) (decl_columns fm w d h.0) ∙ ap (λ x. is_inst_named w d || x) (insts_listed fm w ds h.1))
 
 abbrev inst_of : Decl → Option (List ℕ)
 inst_of d = cond (is_inst d) (Some (decl_name d)) None
@@ -118,7 +118,7 @@ insts_mapped : (w : List ℕ) (ds : List Decl) → list_any (λ y. bytes_eq y w)
 insts_mapped w [] = refl
 insts_mapped w (d ∷ ds) = inst_at w d (filter_map inst_of ds) ∙ ap (λ x. (is_inst d && bytes_eq (decl_name d) w) || x) (insts_mapped w ds)
 
-fielded : (fm : Format) (before ds : List Decl) → DeclsFit fm before ds → AllByRecursion IsFielded ds
+fielded : (fm : Format) (before ds : List Decl) → DeclsFit fm before ds → AllByRecursion (IsFielded fm) ds
 fielded fm before [] f = tt
 fielded fm before (d ∷ ds) f = ((each_fails (decl_tests (record { format = fm; decls = before; lines = [] }) d) f.1).1.1.0, fielded fm (before ++ d ∷ []) ds f.2)
 
@@ -172,7 +172,7 @@ kinds_of g w h =
       locks = flip_any w (locks g) ∙ listed lock_of (λ (x : List ℕ). x) lock_agrees w g.decls d;
       barriers = listed barrier_of (λ (x : BarrierInfo). x.name) barrier_agrees w g.decls d;
       insts = i;
-      columns = insts_listed w g.decls (fielded g.format [] g.decls h.decls) ∙ i;
+      columns = insts_listed g.format w g.decls (fielded g.format [] g.decls h.decls) ∙ i;
       lines = λ s. sym (any_map (λ y. bytes_eq y w) (λ (x : Line). x.name) g.lines) ∙ apart_lists (map decl_name g.decls) (map (λ (x : Line). x.name) g.lines) w n.apart (sym (owner_named w g.decls) ∙ s);
     }
 

@@ -13,12 +13,13 @@ use Rattle.graph_terms.specs.declared.decl.BarrierInfo.{BarrierInfo}
 use Rattle.graph_terms.specs.Graph.{GraphValue, named_spaces, columns, locks, barriers, line_passes, is_user, is_phase, is_acquire, is_release_of, ends_user}
 use Rattle.graph_terms.specs.Spelling.{space_name, lock_name, barrier_name, line_name, column_name}
 use Rattle.graph_terms.specs.Fits.{repeats, is_used}
+use Rattle.graph_terms.specs.Limits.{limits}
 use Rattle.graph_words.specs.Words.{pieces, is_two_names, is_column, value_of, count_of, weight_of, first_piece}
 use Rattle.graph_words.specs.Draft.{Place, NewName, SpaceName, LockName, BarrierName, UserName, PhaseName, AcquireName, EventName, Column, Fields, Value, Times, Weight, Shared, Count, Intervals, is_own_word, line_number, column_number_of, number_in_place}
 use Rattle.graph_reader.specs.FirstFault.{misnamed, is_inst_name, has_column, unknown, is_line_name, twice, unlike, misnumbered, misordered}
 use Rattle.graph_words.proofs.Public.{found_of}
 use Rattle.basics.proofs.TestedLists.{same_bytes, bytes_same, found_is, bytes_flip}
-use Rattle.graph_reader.proofs.WordFacts.{name_is_word, decimal_is_word, value_of-decimal, value_of-spelled, count_of-decimal, count_of-spelled, weight_of-decimal, weight_of-spelled, column_pieces, joined_pieces, joined_is_word}
+use Rattle.graph_reader.proofs.WordFacts.{name_is_word, decimal_is_word, value_of-decimal, value_of-spelled, few_counted, count_of-decimal, count_of-spelled, weight_of-decimal, weight_of-spelled, column_pieces, joined_pieces, joined_is_word}
 use Rattle.graph_reader.specs.Words.{IsWord}
 use Rattle.graph_reader.proofs.GraphNames.{IsNamed, KnownAs, IsColumnAt, same_column, read_name, spelled_name, listed_name, spaces_apart, locks_apart, barriers_apart, lines_apart, columns_apart, known_space, known_lock, known_barrier, known_line, known_line_at, known_column}
 
@@ -47,7 +48,7 @@ pub record IsFine (g : GraphValue) (p : Place) (w : List ℕ) : Type 0 where
   pub once : twice g p w ≡ false
   pub known : unknown g p w ≡ false
   pub alike : unlike g p w ≡ false
-  pub numbered : misnumbered p w ≡ false
+  pub numbered : misnumbered g.format p w ≡ false
   pub ordered : misordered p w ≡ false
 
 -- a number that fits its place
@@ -63,8 +64,8 @@ FitsPlace g Column n = n < length (columns g)
 FitsPlace g Value n = n < 2 ^ 64
 FitsPlace g Times n = n ≡ 0
 FitsPlace g Shared n = n ≡ 0
-FitsPlace g Weight n = (1 < n) × (n ≤ 8192)
-FitsPlace g Count n = (0 < n) × (n ≤ 8192)
+FitsPlace g Weight n = (1 < n) × (n ≤ (limits g.format).count)
+FitsPlace g Count n = (0 < n) × (n ≤ (limits g.format).count)
 FitsPlace g NewName n = ⊥
 FitsPlace g Fields n = ⊥
 FitsPlace g Intervals n = ⊥
@@ -264,11 +265,11 @@ value_reads g n h = record {
   word = decimal_is_word n h;
 }
 
-count_reads : (g : GraphValue) (n : ℕ) → 0 < n → n ≤ 8192 → Reads g Count n (decimal n)
+count_reads : (g : GraphValue) (n : ℕ) → 0 < n → n ≤ (limits g.format).count → Reads g Count n (decimal n)
 count_reads g n h k = record {
-  fine = record { named = refl; once = refl; known = refl; alike = refl; numbered = ap (λ (o : Option ℕ). not (is_some o)) (count_of-decimal n h k); ordered = refl };
-  number_is = ap (λ o. unwrap_or o 0) (count_of-decimal n h k);
-  word = decimal_is_word n (omega arith);
+  fine = record { named = refl; once = refl; known = refl; alike = refl; numbered = ap (λ (o : Option ℕ). not (is_some o)) (count_of-decimal g.format n h k); ordered = refl };
+  number_is = ap (λ o. unwrap_or o 0) (count_of-decimal g.format n h k);
+  word = decimal_is_word n (let most = few_counted g.format in omega (arith, k, most));
 }
 
 times_reads : (g : GraphValue) (n : ℕ) → n ≡ 0 → Reads g Times n (codes "times")
@@ -285,11 +286,11 @@ shared_reads g n h = record {
   word = record { some = refl; printed = (omega arith, (omega arith, (omega arith, (omega arith, (omega arith, (omega arith, tt)))))) };
 }
 
-weight_reads : (g : GraphValue) (n : ℕ) → 1 < n → n ≤ 8192 → Reads g Weight n (decimal n)
+weight_reads : (g : GraphValue) (n : ℕ) → 1 < n → n ≤ (limits g.format).count → Reads g Weight n (decimal n)
 weight_reads g n h k = record {
-  fine = record { named = refl; once = refl; known = refl; alike = refl; numbered = ap (λ (o : Option ℕ). not (is_some o)) (weight_of-decimal n h k); ordered = refl };
-  number_is = ap (λ o. unwrap_or o 0) (weight_of-decimal n h k);
-  word = decimal_is_word n (omega arith);
+  fine = record { named = refl; once = refl; known = refl; alike = refl; numbered = ap (λ (o : Option ℕ). not (is_some o)) (weight_of-decimal g.format n h k); ordered = refl };
+  number_is = ap (λ o. unwrap_or o 0) (weight_of-decimal g.format n h k);
+  word = decimal_is_word n (let most = few_counted g.format in omega (arith, k, most));
 }
 
 -- a number that fits its place is read back from its spelling, and no reason refuses that
@@ -321,8 +322,8 @@ IsNumbered _ = Unit {0}
 -- what a number has where its place bounds it
 abbrev pub IsBounded : Place → ℕ → Type 0
 IsBounded Value n = n < 2 ^ 64
-IsBounded Weight n = (1 < n) × (n ≤ 8192)
-IsBounded Count n = (0 < n) × (n ≤ 8192)
+IsBounded Weight n = (1 < n) × (n ≤ 65536)
+IsBounded Count n = (0 < n) × (n ≤ 65536)
 IsBounded _ n = Unit {0}
 
 -- the word is the spelling of the number that it is read as
@@ -376,17 +377,17 @@ value_spelled g w f =
 
 count_spelled : (g : GraphValue) (w : List ℕ) → IsFine g Count w → IsSpelled g Count w
 count_spelled g w f =
-    let n = is_there (count_of w) f.numbered in
-    let s = count_of-spelled n.0 w n.1 in
+    let n = is_there (count_of g.format w) f.numbered in
+    let s = count_of-spelled g.format n.0 w n.1 in
     let e : number_in_place g Count w ≡ n.0 = ap (λ o. unwrap_or o 0) n.1 in
-    record { word_is = ap decimal e ∙ sym s.0; bounded = subst (λ k. (0 < k) × (k ≤ 8192)) (sym e) (s.1, s.2) }
+    record { word_is = ap decimal e ∙ sym s.0; bounded = subst (λ k. (0 < k) × (k ≤ 65536)) (sym e) (s.1, (let most = few_counted g.format in omega (arith, s.2, most))) }
 
 weight_spelled : (g : GraphValue) (w : List ℕ) → IsFine g Weight w → IsSpelled g Weight w
 weight_spelled g w f =
-    let n = is_there (weight_of w) f.numbered in
-    let s = weight_of-spelled n.0 w n.1 in
+    let n = is_there (weight_of g.format w) f.numbered in
+    let s = weight_of-spelled g.format n.0 w n.1 in
     let e : number_in_place g Weight w ≡ n.0 = ap (λ o. unwrap_or o 0) n.1 in
-    record { word_is = ap decimal e ∙ sym s.0; bounded = subst (λ k. (1 < k) × (k ≤ 8192)) (sym e) (s.1, s.2) }
+    record { word_is = ap decimal e ∙ sym s.0; bounded = subst (λ k. (1 < k) × (k ≤ 65536)) (sym e) (s.1, (let most = few_counted g.format in omega (arith, s.2, most))) }
 
 -- a word that no reason refuses in its place is the spelling of its number
 pub place_spelled : (g : GraphValue) (p : Place) (w : List ℕ) → IsNumbered p → is_own_word p w ≡ true → IsFine g p w → IsSpelled g p w

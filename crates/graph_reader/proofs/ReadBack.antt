@@ -15,6 +15,7 @@ use Rattle.graph_terms.specs.declared.verb.Line.{Line}
 use Rattle.graph_terms.specs.declared.verb.Verb.{Verb}
 use Rattle.graph_terms.specs.declared.verb.Verb.TheVariants.{Merge, MergeIgnore}
 use Rattle.graph_terms.specs.declared.why.Why.TheVariants.{Syntax}
+use Rattle.graph_terms.specs.Limits.{limits}
 use Rattle.graph_terms.specs.Name.{is_name_in}
 use Rattle.graph_terms.specs.Graph.{GraphValue, named_spaces}
 use Rattle.graph_terms.specs.Spelling.{space_name, line_name, column_name, op_word, interval_word, comma_word, decl_words, verb_words, on_words, line_words}
@@ -311,15 +312,15 @@ op_is_word op.Max = word_by_test (codes "max") refl
 barrier_back : (g : GraphValue) → IsNamed g → (name : List ℕ) (count : ℕ) (o : Op) (first : ℕ) → IsItem g (inl (decl.Barrier name count o first)) → decl_fault g (decl.Barrier name count o first) ≡ None → IsKnownDecl g (decl.Barrier name count o first) →
     ReadsBack g (inl (decl.Barrier name count o first))
 barrier_back g n name count o first is fits k =
-    let c = or_parts (nat_lt count 1) (nat_lt 8192 count) k.counted in
+    let c = or_parts (nat_lt count 1) (nat_lt (limits g.format).count count) k.counted in
     let some : 1 ≤ count = ltb-false count 1 c.0 in
-    let few : count ≤ 8192 = ltb-false 8192 count c.1 in
+    let few : count ≤ (limits g.format).count = ltb-false (limits g.format).count count c.1 in
     let r = place_reads g n Count count (some, few) in
     let q = place_reads g n Value first is.0.2 in
-    let d : Draft = barrier_with name (decimal count) o (decimal first) in
+    let d : Draft = barrier_with g.format name (decimal count) o (decimal first) in
     let same : d.item ≡ decl_item (decl.Barrier name count o first) = ap (λ m. decl_item (decl.Barrier name m o (number_in_place g Value (decimal first)))) r.number_is ∙ ap (λ m. decl_item (decl.Barrier name count o m)) q.number_is in
     back_from g (inl (decl.Barrier name count o first)) d
-    (decl_drafted g (codes "barrier") name (decimal count ∷ op_word o ∷ decimal first ∷ []) is.2 is.1 ∙ ap (λ p. option_map (λ x. barrier_with name (decimal count) x (decimal first)) p) (op_read o)) same
+    (decl_drafted g (codes "barrier") name (decimal count ∷ op_word o ∷ decimal first ∷ []) is.2 is.1 ∙ ap (λ p. option_map (λ x. barrier_with g.format name (decimal count) x (decimal first)) p) (op_read o)) same
     (record { each = (new_name g name is.2 k.new, (r.fine, (q.fine, tt))); events = refl; columns = refl; item = ap (item_fault g) same ∙ fits })
     (word_by_test (codes "barrier") refl, (name_is_word g.format name is.2, (r.word, (op_is_word o, (q.word, tt)))))
     (omega arith)

@@ -91,13 +91,13 @@ misnamed_is fm places.Weight w n = absurd n
 misnamed_is fm (places.Column mode over) w n = absurd n
 misnamed_is fm p w n = refl
 
-pub name_plain : (p : table.Place) (w : List ℕ) → NamesThing p → (misnumbered (as_place p) w ≡ false) × (placed_value (as_place p) w ≡ 0)
-name_plain places.Value w n = absurd n
-name_plain places.Times w n = absurd n
-name_plain places.Shared w n = absurd n
-name_plain places.Weight w n = absurd n
-name_plain (places.Column mode over) w n = absurd n
-name_plain p w n = (refl, refl)
+pub name_plain : (fm : Format) (p : table.Place) (w : List ℕ) → NamesThing p → (misnumbered fm (as_place p) w ≡ false) × (placed_value (as_place p) w ≡ 0)
+name_plain fm places.Value w n = absurd n
+name_plain fm places.Times w n = absurd n
+name_plain fm places.Shared w n = absurd n
+name_plain fm places.Weight w n = absurd n
+name_plain fm (places.Column mode over) w n = absurd n
+name_plain fm p w n = (refl, refl)
 
 -- what is said of an option that is none
 pub turned : (b c : Bool) → c ≡ not b → b ≡ not c
@@ -151,7 +151,7 @@ all_tell_more g ps p w a c s h t misnamed_with twice_with unknown_with unlike_wi
   twice = or_last (λ (q : Placed). twice g q.0 q.1) ps (p, w) _ _ _ h.twice t.twice twice_with;
   unknown = or_last (λ (q : Placed). unknown g q.0 q.1) ps (p, w) _ _ _ h.unknown t.unknown unknown_with;
   unlike = or_last (λ (q : Placed). unlike g q.0 q.1) ps (p, w) _ _ _ h.unlike t.unlike unlike_with;
-  misnumbered = or_last (λ (q : Placed). misnumbered q.0 q.1) ps (p, w) _ _ _ h.misnumbered t.misnumbered misnumbered_with;
+  misnumbered = or_last (λ (q : Placed). misnumbered g.format q.0 q.1) ps (p, w) _ _ _ h.misnumbered t.misnumbered misnumbered_with;
 }
 
 -- more words, by what is to be said of them
@@ -166,7 +166,7 @@ all_tell_both g ps qs a b c h k misnamed_with twice_with unknown_with unlike_wit
   twice = or_both (λ (q : Placed). twice g q.0 q.1) ps qs _ _ _ h.twice k.twice twice_with;
   unknown = or_both (λ (q : Placed). unknown g q.0 q.1) ps qs _ _ _ h.unknown k.unknown unknown_with;
   unlike = or_both (λ (q : Placed). unlike g q.0 q.1) ps qs _ _ _ h.unlike k.unlike unlike_with;
-  misnumbered = or_both (λ (q : Placed). misnumbered q.0 q.1) ps qs _ _ _ h.misnumbered k.misnumbered misnumbered_with;
+  misnumbered = or_both (λ (q : Placed). misnumbered g.format q.0 q.1) ps qs _ _ _ h.misnumbered k.misnumbered misnumbered_with;
 }
 
 -- events with one word more, by what is to be said of it

@@ -4,7 +4,7 @@ use Rattle.std.specs.Option.{option_map_or}
 use Rattle.std.specs.List.{list_any, before_first, after_first}
 use Rattle.std.specs.Str.{bytes_eq}
 use Rattle.std.proofs.Common.{inl, inr}
-use Rattle.graph_terms.specs.declared.limits.TheConstants.{MAX_TEXT}
+use Rattle.graph_terms.specs.Limits.{limits}
 use Rattle.graph_terms.specs.declared.format.Format.{Format}
 use Rattle.graph_terms.specs.declared.decl.Decl.{Decl}
 use Rattle.graph_terms.specs.declared.verb.Line.{Line}
@@ -76,13 +76,13 @@ unlike g EventName w = not (is_line_name g w)
 unlike g Column w = not (is_inst_name g (first_piece (pieces 46 w)))
 unlike g _ w = false
 
--- a word that is not spelled as the number, the weight, the count or the intervals that its place takes
-abbrev pub misnumbered : Place → List ℕ → Bool
-misnumbered Value w = not (is_some (value_of w))
-misnumbered Weight w = not (is_some (weight_of w))
-misnumbered Count w = not (is_some (count_of w))
-misnumbered Intervals w = not (is_some (intervals_of w))
-misnumbered _ w = false
+-- a word that is not spelled as the number, the weight, the count or the intervals that its place takes in a format
+abbrev pub misnumbered : Format → Place → List ℕ → Bool
+misnumbered format Value w = not (is_some (value_of w))
+misnumbered format Weight w = not (is_some (weight_of format w))
+misnumbered format Count w = not (is_some (count_of format w))
+misnumbered format Intervals w = not (is_some (intervals_of w))
+misnumbered format _ w = false
 
 -- intervals that are reversed, that touch or that do not ascend
 abbrev pub misordered : Place → List ℕ → Bool
@@ -118,7 +118,7 @@ draft_tests g d =
     )
     ∷ (list_any (λ (p : Place × List ℕ). unknown g p.0 p.1) d.placed, why.Unknown)
     ∷ (list_any (λ (p : Place × List ℕ). unlike g p.0 p.1) d.placed, why.Kind)
-    ∷ (list_any (λ (p : Place × List ℕ). misnumbered p.0 p.1) d.placed, why.Number)
+    ∷ (list_any (λ (p : Place × List ℕ). misnumbered g.format p.0 p.1) d.placed, why.Number)
     ∷ (list_any (λ (p : Place × List ℕ). misordered p.0 p.1) d.placed, why.Space)
     ∷ []
 
@@ -137,7 +137,7 @@ words_fault g ws = cond (list_any is_empty ws) (Some why.Syntax) (option_map_or 
 -- the first reason that refuses the line with these bytes, after the text of a graph that is not closed
 abbrev pub line_reason : GraphValue → List ℕ → Option Why
 line_reason g line = cond (bytes_eq line (codes "end"))
-    (cond (nat_lt MAX_TEXT (length (text g))) (Some why.Limit) None)
+    (cond (nat_lt (limits g.format).text (length (text g))) (Some why.Limit) None)
     (words_fault g (pieces 32 line))
 
 -- whether a line has a newline
@@ -181,7 +181,7 @@ pub record IsRestFault (bytes : List ℕ) (number : ℕ) (reason : Why) : Type 0
   pub rest : List ℕ
   pub is_graph : IsGraph before
   pub begins : bytes ≡ text before ++ rest
-  pub short : length (text before) ≤ MAX_TEXT
+  pub short : length (text before) ≤ (limits before.format).text
   pub follows : rest ≢ []
   pub number_is : number ≡ line_count before + 2
   pub reason_is : reason ≡ why.Rest

@@ -50,7 +50,7 @@ pub record Tells (g : GraphValue) (p : draft.Place) (w : List ℕ) (s : Seen) : 
   pub twice : s.faults.twice ≡ twice g p w
   pub unknown : s.faults.unknown ≡ unknown g p w
   pub unlike : s.faults.unlike ≡ unlike g p w
-  pub misnumbered : s.faults.misnumbered ≡ misnumbered p w
+  pub misnumbered : s.faults.misnumbered ≡ misnumbered g.format p w
   pub number : s.number ≡ named_number g p w
   pub value : s.value ≡ placed_value p w
 
@@ -93,7 +93,7 @@ pub record AllTell (g : GraphValue) (ps : List Placed) (faults : Faults) : Type 
   pub twice : faults.twice ≡ list_any (λ (p : Placed). twice g p.0 p.1) ps
   pub unknown : faults.unknown ≡ list_any (λ (p : Placed). unknown g p.0 p.1) ps
   pub unlike : faults.unlike ≡ list_any (λ (p : Placed). unlike g p.0 p.1) ps
-  pub misnumbered : faults.misnumbered ≡ list_any (λ (p : Placed). misnumbered p.0 p.1) ps
+  pub misnumbered : faults.misnumbered ≡ list_any (λ (p : Placed). misnumbered g.format p.0 p.1) ps
 
 -- the lines behind `on`
 abbrev pub kind_on : GraphValue → Kind → List (List ℕ) → List ℕ
@@ -106,7 +106,7 @@ form_reason g kind name ws = first_reason (
     ∷ (is_used g name || (list_any (λ (p : Placed). twice g p.0 p.1) (form_placed g.format kind ws) || form_repeats g.format kind ws), why.Twice)
     ∷ (list_any (λ (p : Placed). unknown g p.0 p.1) (form_placed g.format kind ws), why.Unknown)
     ∷ (list_any (λ (p : Placed). unlike g p.0 p.1) (form_placed g.format kind ws), why.Kind)
-    ∷ (list_any (λ (p : Placed). misnumbered p.0 p.1) (form_placed g.format kind ws), why.Number)
+    ∷ (list_any (λ (p : Placed). misnumbered g.format p.0 p.1) (form_placed g.format kind ws), why.Number)
     ∷ [])
 
 -- the first reason that refuses a word of a line but for its spelling and what stands there twice

@@ -18,7 +18,7 @@ use Rattle.graph_words.specs.Words.{pieces, ascend_from}
 use Rattle.graph_words.specs.Draft.{Draft, draft, SpaceName, space_number}
 use Rattle.graph_reader.specs.FirstFault.{words_fault, draft_fault, unlike, or_else, FirstFault, IsHeaderFault, IsLineFault, IsRestFault}
 use Rattle.graph_words.specs.Text.{text, bare_of, number_of, GraphText}
-use Rattle.graph_terms.specs.declared.limits.TheConstants.{MAX_TEXT}
+use Rattle.graph_terms.specs.Limits.{limits}
 use Rattle.graph_reader.specs.declared.reader.Reading.{Reading}
 use Rattle.graph_reader.specs.declared.reader.Reading.TheVariants as readings
 use Rattle.graph_reader.specs.declared.item.Item.{Item}
@@ -45,7 +45,7 @@ HasLine bytes number = (line : List ℕ) × (1 ≤ number) × (slice_get (pieces
 -- the bytes, without comments, are the text of the graph
 pub record IsTextOf (bytes : List ℕ) (g : GraphValue) : Type 0 where
   pub is_text : bytes ≡ text g
-  pub short : length bytes ≤ MAX_TEXT
+  pub short : length bytes ≤ (limits g.format).text
   pub is_graph : IsGraph g
 
 -- a refused line of bytes without comments, with the graph of the lines above it where the reason is one of a line between the first and the closing one
@@ -73,7 +73,7 @@ more_reading g number [] = readings.Graph g
 more_reading g number (b ∷ bs) = readings.Refused (record { number = number + 1; why = why.Rest; above = None })
 
 abbrev pub closed_reading : GraphValue → ℕ → List ℕ → ℕ → Reading
-closed_reading g number after bytes = cond (nat_lt MAX_TEXT bytes) (readings.Refused (record { number = number; why = why.Limit; above = Some g })) (more_reading g number after)
+closed_reading g number after bytes = cond (nat_lt (limits g.format).text bytes) (readings.Refused (record { number = number; why = why.Limit; above = Some g })) (more_reading g number after)
 
 -- the bytes behind the first newline
 abbrev pub after_line : List ℕ → List ℕ

@@ -10,6 +10,7 @@ use crate::item::ItemError;
 use crate::lookup::{look_up, space, stands_for};
 use graph_model::graph::Graph;
 use graph_terms::decl::Decl;
+use graph_terms::limits::Limits;
 use graph_terms::lists::{ItemList, NameList};
 use graph_terms::name::Name;
 use graph_terms::why::Why;
@@ -49,7 +50,7 @@ pub(crate) fn read_barrier(
     op: Op,
     first: &[u8],
 ) -> Result<Decl, ItemError>
-    ensures { IsDeclRead graph.now (barrier_with name.now arrivals.now op first.now) result }
+    ensures { IsDeclRead graph.now (barrier_with graph.now.format name.now arrivals.now op first.now) result }
 {
     let Some(new) = name_in(graph, name) else {
         return Err(ItemError::Refused(Why::Name));
@@ -57,7 +58,7 @@ pub(crate) fn read_barrier(
     if stands_for(graph, &new).is_some() {
         return Err(ItemError::Refused(Why::Twice));
     }
-    let Some(count) = count(arrivals) else {
+    let Some(count) = count(graph.format(), arrivals) else {
         return Err(ItemError::Refused(Why::Number));
     };
     let Some(first) = value(first) else {
@@ -103,7 +104,7 @@ fn read_intervals(
     if pairs.len() > 4294967295 {
         return Err(ItemError::NoMemory);
     }
-    match Space::new(alloc, pairs) {
+    match Space::within(alloc, Limits::of(graph.format()).space, pairs) {
         Ok(space) => fitting_decl(graph, Decl::Space { name, space }),
         Err(fault) => Err(space_error(fault)),
     }
@@ -170,7 +171,7 @@ fn read_named(
         return Err(ItemError::Refused(Why::Kind));
     };
     // More columns than a graph may have: no need to compare the fields again.
-    if fields.len() > 256 {
+    if fields.len() as u64 > Limits::of(graph.format()).columns {
         return Err(ItemError::Refused(Why::Limit));
     }
     let fields = ItemList { items: fields };

@@ -13,7 +13,7 @@ use crate::item::{Item, ItemError};
 use crate::lines::read_item;
 use graph_model::graph::Graph;
 use graph_terms::format::Format;
-use graph_terms::limits::MAX_TEXT;
+use graph_terms::limits::Limits;
 use graph_terms::why::Why;
 use graph_words::comments::{bare_of, number_of};
 use graph_words::cuts::cut;
@@ -176,7 +176,7 @@ fn closed(graph: Graph, number: u32, after: &[u8], bytes: usize) -> Reading
     requires { number < 2 ^ 32 - 1 }
     ensures { result ≡ closed_reading graph number after.now bytes }
 {
-    if bytes as u64 > MAX_TEXT {
+    if bytes as u64 > Limits::of(graph.format()).text {
         return refused_behind(graph, number, Why::Limit);
     }
     if after.is_empty() {

@@ -179,10 +179,10 @@ fn see_fixed() -> Seen
 }
 
 /// What is to be said of how many arrivals one counts for.
-fn see_weight(word: &[u8]) -> Seen
-    ensures { (g : GraphValue) → Tells g Weight word.now result }
+fn see_weight(graph: &Graph, word: &[u8]) -> Seen
+    ensures { Tells graph.now Weight word.now result }
 {
-    let weight = weight(word);
+    let weight = weight(graph.format(), word);
     Seen {
         faults: misnumbered(weight.is_none()),
         number: weight.unwrap_or(0),
@@ -201,6 +201,6 @@ pub fn see(graph: &Graph, place: Place, word: &[u8]) -> Seen
         Place::Value => see_value(word),
         Place::Times => see_fixed(),
         Place::Shared => see_fixed(),
-        Place::Weight => see_weight(word),
+        Place::Weight => see_weight(graph, word),
     }
 }

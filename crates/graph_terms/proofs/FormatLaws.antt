@@ -9,9 +9,11 @@ use Rattle.graph_terms.specs.declared.format.Format.{Format}
 use Rattle.graph_terms.specs.declared.format.Format.TheVariants.{One, Two, Three}
 use Rattle.graph_terms.specs.declared.verb.Verb.TheVariants.{Acquire}
 use Rattle.graph_terms.specs.Format.{has_since}
-use Rattle.graph_terms.specs.Fits.{takes_no_on, most_events, merged_events}
+use Rattle.graph_terms.specs.Fits.{takes_no_on, merged_events}
+use Rattle.graph_terms.specs.declared.limits.Limits.{Limits}
+use Rattle.graph_terms.specs.Limits.{limits, limits_before_three, limits_of_three, AllowsNoMore}
 use Rattle.graph_terms.specs.Name.{is_name_byte, is_first_byte, is_later_byte, is_name_in}
-use Rattle.graph_terms.specs.Laws.{SinceByRank, FormatThreeIsLast, UpgradedFormatIsLater, LaterFormatsHaveVerbs, LaterFormatsTakeEvents, LaterFormatsNameMore, LaterFormatsHaveNames, NamesAreLongNames, LaterFormatsHaveDeclarations}
+use Rattle.graph_terms.specs.Laws.{SinceByRank, FormatThreeIsLast, UpgradedFormatIsLater, LaterFormatsHaveVerbs, LaterFormatsTakeEvents, LaterFormatsNameMore, LaterFormatsAllowMore, FormatThreeAllowsMost, LaterFormatsHaveNames, NamesAreLongNames, LaterFormatsHaveDeclarations}
 
 pub since_by_rank : SinceByRank
 since_by_rank One One = refl
@@ -61,22 +63,65 @@ later_events f h s v on e =
     let p = or_parts none (not (has_since Three f) && nat_lt 1 (length on)) e in
     or_from none (not (has_since Three h) && nat_lt 1 (length on)) p.0 (several_too f h s on p.1)
 
--- a number of events that is not above the most of a format
-most_too : (f h : Format) → has_since f h ≡ true → (n : ℕ) → nat_lt (most_events f) n ≡ false → nat_lt (most_events h) n ≡ false
-most_too One One s n e = e
-most_too One Two s n e = e
-most_too One Three s n e = (let few : n ≤ 64 = ltb-false 64 n e in let more : n ≤ 4096 = omega (arith, few) in le-ltb 4096 n more)
-most_too Two One s n e = absurd (false≢true s)
-most_too Two Two s n e = e
-most_too Two Three s n e = (let few : n ≤ 64 = ltb-false 64 n e in let more : n ≤ 4096 = omega (arith, few) in le-ltb 4096 n more)
-most_too Three One s n e = absurd (false≢true s)
-most_too Three Two s n e = absurd (false≢true s)
-most_too Three Three s n e = e
+-- what each format allows beside the others
+fewer_before : AllowsNoMore limits_before_three limits_of_three
+fewer_before = record {
+  text = omega arith;
+  insts = omega arith;
+  columns = omega arith;
+  cells = omega arith;
+  locks = omega arith;
+  barriers = omega arith;
+  lines = omega arith;
+  edges = omega arith;
+  events = omega arith;
+  count = omega arith;
+  intervals = omega arith;
+  points = omega arith;
+}
+
+same_limits : (a : Limits) → AllowsNoMore a a
+same_limits a = record {
+  text = omega arith;
+  insts = omega arith;
+  columns = omega arith;
+  cells = omega arith;
+  locks = omega arith;
+  barriers = omega arith;
+  lines = omega arith;
+  edges = omega arith;
+  events = omega arith;
+  count = omega arith;
+  intervals = omega arith;
+  points = omega arith;
+}
+
+pub most_limits : FormatThreeAllowsMost
+most_limits One = fewer_before
+most_limits Two = fewer_before
+most_limits Three = same_limits limits_of_three
+
+pub later_limits : LaterFormatsAllowMore
+later_limits One One s = same_limits limits_before_three
+later_limits One Two s = same_limits limits_before_three
+later_limits One Three s = fewer_before
+later_limits Two One s = absurd (false≢true s)
+later_limits Two Two s = same_limits limits_before_three
+later_limits Two Three s = fewer_before
+later_limits Three One s = absurd (false≢true s)
+later_limits Three Two s = absurd (false≢true s)
+later_limits Three Three s = same_limits limits_of_three
+
+-- a number that is not above a limit
+not_above : (a b n : ℕ) → a ≤ b → nat_lt a n ≡ false → nat_lt b n ≡ false
+not_above a b n h e = let few : n ≤ a = ltb-false a n e in le-ltb b n (omega (arith, few, h))
 
 pub later_many : LaterFormatsNameMore
 later_many f h s v on e =
-    let p = or_parts (nat_lt (most_events f) (length (merged_events v))) (nat_lt (most_events f) (length on)) e in
-    or_from (nat_lt (most_events h) (length (merged_events v))) (nat_lt (most_events h) (length on)) (most_too f h s (length (merged_events v)) p.0) (most_too f h s (length on) p.1)
+    let more = (later_limits f h s).events in
+    let p = or_parts (nat_lt (limits f).events (length (merged_events v))) (nat_lt (limits f).events (length on)) e in
+    or_from (nat_lt (limits h).events (length (merged_events v))) (nat_lt (limits h).events (length on))
+    (not_above (limits f).events (limits h).events (length (merged_events v)) more p.0) (not_above (limits f).events (limits h).events (length on) more p.1)
 
 -- the bytes of a name
 first_too : (c : ℕ) → is_ascii_lowercase c ≡ true → is_first_byte c ≡ true

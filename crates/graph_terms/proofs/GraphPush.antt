@@ -9,6 +9,7 @@ use Rattle.graph_terms.specs.declared.verb.Line.{Line}
 use Rattle.graph_terms.specs.Graph.{GraphValue}
 use Rattle.graph_terms.specs.Name.{is_name_in}
 use Rattle.graph_terms.specs.Spelling.{spelled, decl_words, line_words, header, decls_text, lines_text, head, body}
+use Rattle.graph_terms.specs.Limits.{limits}
 use Rattle.graph_terms.specs.Fits.{is_beyond, with_decl, with_line, decl_fault, line_fault, IsDecl, is_decl_named, IsLine, DeclsFit, LinesFit}
 use Rattle.graph_terms.specs.Laws.{FittingDeclarationStays, FittingLineStays, TextOfOneMoreDeclaration, HeadWithDeclaration, HeadWithLine, DeclarationsBelowBytes, ItemsBelowBytes, ShortWithinLimits}
 
@@ -94,5 +95,5 @@ long_head g =
 pub short_by : ShortWithinLimits
 short_by g b h =
     let limit = or_parts b (is_beyond g) h in
-    let short = or_parts (nat_lt 1048576 (length (head g))) _ limit.1 in
-    ltb-false 1048576 (length (head g)) short.0
+    let short = or_parts (nat_lt (limits g.format).text (length (head g))) _ limit.1 in
+    ltb-false (limits g.format).text (length (head g)) short.0

@@ -1,5 +1,5 @@
 -- The laws that the proofs of other crates cite, as specs/ states them.
-use Rattle.graph_terms.specs.Laws.{AcquireByTest, ReleaseByTest, VerbOfAcquire, VerbOfRelease, AcquiresByVerb, ReleasesByVerb, PassingLineHasVerb, LinePassesAsVerb, VerbHasLine, VerbsAreBelowEnd, PassingLinesAreBelowEnd, ReleasesOneAcquire, AcquiresOneReservation, BothSharedEitherWay, PhaseByTest, AcquiresOrNot, NeverComesAs, ReservationOfVerbDeclared, ReservationOfLineDeclared, ReleaseNamesAcquire, OneRelease, NoReasonNoFault, FittingLinesNameKnown, NamedLinesAreAbove, EdgesReachNoFurther, EdgesJoinLines, DeclaredSpacesAreSpaces, LinesFitInPlace, NumberedSpacesAreSpaces, BarrierOfPhaseDeclared, SpacesOfColumnsDeclared, SpaceOfColumnDeclared, FittingDeclarationStays, FittingLineStays, TextOfOneMoreDeclaration, HeadWithDeclaration, HeadWithLine, DeclarationsBelowBytes, ItemsBelowBytes, ShortWithinLimits, EdgesOfEachLine, EdgeOfArrival, FittingKind, EndedUserEvent, EdgesOfOneMoreLine, ArrivalsAccessNothing, ArrivalsNamePhase, OutsideBySpaces, LastPlaceAtEnd, LastPlaceBelowEnd, SinceByRank, FormatThreeIsLast, UpgradedFormatIsLater, LaterFormatsHaveVerbs, LaterFormatsTakeEvents, LaterFormatsNameMore, LaterFormatsHaveNames, NamesAreLongNames, LaterFormatsHaveDeclarations, PartForEachPlace, RowsOfVerbs, RowsOfKinds, NonePlacedPasses, AccessOfColumn, AccessOfSpace, ColumnsOverSpaces, NoAccessPasses, SameInEachPlace, KindOfItsVerb, PartsOfItsVerb, VerbOfItsParts, FewAccesses}
+use Rattle.graph_terms.specs.Laws.{AcquireByTest, ReleaseByTest, VerbOfAcquire, VerbOfRelease, AcquiresByVerb, ReleasesByVerb, PassingLineHasVerb, LinePassesAsVerb, VerbHasLine, VerbsAreBelowEnd, PassingLinesAreBelowEnd, ReleasesOneAcquire, AcquiresOneReservation, BothSharedEitherWay, PhaseByTest, AcquiresOrNot, NeverComesAs, ReservationOfVerbDeclared, ReservationOfLineDeclared, ReleaseNamesAcquire, OneRelease, NoReasonNoFault, FittingLinesNameKnown, NamedLinesAreAbove, EdgesReachNoFurther, EdgesJoinLines, DeclaredSpacesAreSpaces, LinesFitInPlace, NumberedSpacesAreSpaces, BarrierOfPhaseDeclared, SpacesOfColumnsDeclared, SpaceOfColumnDeclared, FittingDeclarationStays, FittingLineStays, TextOfOneMoreDeclaration, HeadWithDeclaration, HeadWithLine, DeclarationsBelowBytes, ItemsBelowBytes, ShortWithinLimits, EdgesOfEachLine, EdgeOfArrival, FittingKind, EndedUserEvent, EdgesOfOneMoreLine, ArrivalsAccessNothing, ArrivalsNamePhase, OutsideBySpaces, LastPlaceAtEnd, LastPlaceBelowEnd, SinceByRank, FormatThreeIsLast, UpgradedFormatIsLater, LaterFormatsHaveVerbs, LaterFormatsTakeEvents, LaterFormatsNameMore, LaterFormatsAllowMore, FormatThreeAllowsMost, LaterFormatsHaveNames, NamesAreLongNames, LaterFormatsHaveDeclarations, PartForEachPlace, RowsOfVerbs, RowsOfKinds, NonePlacedPasses, AccessOfColumn, AccessOfSpace, ColumnsOverSpaces, NoAccessPasses, SameInEachPlace, KindOfItsVerb, PartsOfItsVerb, VerbOfItsParts, FewAccesses}
 use Rattle.graph_terms.proofs.VerbFacts as verb_facts
 use Rattle.graph_terms.proofs.ReleaseFacts as release_facts
 use Rattle.graph_terms.proofs.GraphFacts as graph_facts
@@ -175,6 +175,12 @@ later_verbs = format_laws.later_verbs
 
 pub later_events : LaterFormatsTakeEvents
 later_events = format_laws.later_events
+
+pub later_limits : LaterFormatsAllowMore
+later_limits = format_laws.later_limits
+
+pub most_limits : FormatThreeAllowsMost
+most_limits = format_laws.most_limits
 
 pub later_many : LaterFormatsNameMore
 later_many = format_laws.later_many

@@ -4,8 +4,8 @@ use Rattle.std.specs.Option.{option_map_or}
 use Rattle.std.specs.List.{list_any, list_all, AllByRecursion}
 use Rattle.std.specs.Str.{bytes_eq}
 use Rattle.index_spaces.specs.Space.{has_point, points, space_size, IsSpace}
-use Rattle.index_spaces.specs.declared.limits.TheConstants.{MAX_INTERVALS, MAX_POINTS}
-use Rattle.graph_terms.specs.declared.limits.TheConstants.{MAX_TEXT, MAX_INSTS, MAX_COLUMNS, MAX_CELLS, MAX_LOCKS, MAX_BARRIERS, MAX_LINES, MAX_EDGES, MAX_EVENTS, MAX_EVENTS_OF_THREE, MAX_COUNT}
+use Rattle.graph_terms.specs.declared.limits.TheConstants.{MAX_TEXT, MAX_SPACES}
+use Rattle.graph_terms.specs.Limits.{limits}
 use Rattle.graph_terms.specs.declared.format.Format.{Format}
 use Rattle.graph_terms.specs.declared.format.Format.TheVariants.{One, Two, Three}
 use Rattle.graph_terms.specs.Format.{has_since}
@@ -60,15 +60,20 @@ abbrev pub is_inst : Decl → Bool
 is_inst (Inst name space fields) = true
 is_inst _ = false
 
--- the intervals and the points of a declared space are few enough
-abbrev pub is_large : Decl → Bool
-is_large (Space name space) = nat_lt MAX_INTERVALS (length space) || nat_lt MAX_POINTS (space_size space)
-is_large _ = false
+-- a declared space has more intervals or points than the format allows
+abbrev pub is_large : Format → Decl → Bool
+is_large f (Space name space) = nat_lt (limits f).space.intervals (length space) || nat_lt (limits f).space.points (space_size space)
+is_large f _ = false
 
--- a quantity of a graph is above its greatest value
+-- more spaces than a long text may declare
+abbrev pub has_many_spaces : GraphValue → Bool
+has_many_spaces g = nat_lt MAX_SPACES (length (named_spaces g)) && nat_lt MAX_TEXT (length (head g))
+
+-- a quantity of a graph is above the greatest value of its format
 abbrev pub is_beyond : GraphValue → Bool
-is_beyond g = nat_lt MAX_TEXT (length (head g)) || (nat_lt MAX_INSTS (length (filter is_inst g.decls)) || (nat_lt MAX_COLUMNS (length (columns g)) || (nat_lt MAX_CELLS (cell_count g)
-    || (nat_lt MAX_LOCKS (length (locks g)) || (nat_lt MAX_BARRIERS (length (barriers g)) || (nat_lt MAX_LINES (length g.lines) || nat_lt MAX_EDGES (length (edges g))))))))
+is_beyond g = nat_lt (limits g.format).text (length (head g)) || (has_many_spaces g || (nat_lt (limits g.format).insts (length (filter is_inst g.decls)) || (nat_lt (limits g.format).columns (length (columns g))
+    || (nat_lt (limits g.format).cells (cell_count g) || (nat_lt (limits g.format).locks (length (locks g)) || (nat_lt (limits g.format).barriers (length (barriers g))
+    || (nat_lt (limits g.format).lines (length g.lines) || nat_lt (limits g.format).edges (length (edges g)))))))))
 
 abbrev pub decl_repeats : Decl → Bool
 decl_repeats (Inst name space fields) = repeats bytes_eq fields
@@ -78,18 +83,18 @@ abbrev pub decl_unknown : GraphValue → Decl → Bool
 decl_unknown g (Inst name space fields) = nat_le (length (named_spaces g)) space
 decl_unknown g _ = false
 
-abbrev pub decl_misnumbered : Decl → Bool
-decl_misnumbered (Inst name space fields) = nat_lt (length fields) 1
-decl_misnumbered (Barrier name count op first) = nat_lt count 1 || nat_lt MAX_COUNT count
-decl_misnumbered _ = false
+abbrev pub decl_misnumbered : Format → Decl → Bool
+decl_misnumbered f (Inst name space fields) = nat_lt (length fields) 1
+decl_misnumbered f (Barrier name count op first) = nat_lt count 1 || nat_lt (limits f).count count
+decl_misnumbered f _ = false
 
 -- the reasons that may refuse a declaration after this graph
 abbrev pub decl_tests : GraphValue → Decl → List (Bool × Why)
 decl_tests g d =
     (is_used g (decl_name d) || decl_repeats d, why.Twice)
     ∷ (decl_unknown g d, why.Unknown)
-    ∷ (decl_misnumbered d, why.Number)
-    ∷ (is_large d || is_beyond (with_decl g d), why.Limit)
+    ∷ (decl_misnumbered g.format d, why.Number)
+    ∷ (is_large g.format d || is_beyond (with_decl g d), why.Limit)
     ∷ []
 
 -- the first of them
@@ -161,7 +166,7 @@ format_lacks f _ = false
 -- the most that one arrival may count for
 abbrev pub most_weight : Format → ℕ
 most_weight One = 1
-most_weight f = MAX_COUNT
+most_weight f = (limits f).count
 
 -- a merge of no events, or a weight that the format has not
 abbrev pub verb_misnumbered : Format → Verb → Bool
@@ -187,11 +192,6 @@ abbrev pub arrives_late : GraphValue → Verb → Bool
 arrives_late g (Arrive phase value weight) = nat_lt (phase_count g phase) (arrivals g phase + weight)
 arrives_late g _ = false
 
--- the most events of a merge, and the most behind `on`
-abbrev pub most_events : Format → ℕ
-most_events Three = MAX_EVENTS_OF_THREE
-most_events f = MAX_EVENTS
-
 -- the events that a merge names
 abbrev pub merged_events : Verb → List ℕ
 merged_events (Merge events) = events
@@ -200,7 +200,7 @@ merged_events _ = []
 
 -- a merge of too many events, or too many behind `on`
 abbrev pub names_many : Format → Verb → List ℕ → Bool
-names_many f v on = nat_lt (most_events f) (length (merged_events v)) || nat_lt (most_events f) (length on)
+names_many f v on = nat_lt (limits f).events (length (merged_events v)) || nat_lt (limits f).events (length on)
 
 -- the reasons that may refuse a line after this graph
 abbrev pub line_tests : GraphValue → Line → List (Bool × Why)

@@ -21,6 +21,7 @@ use Rattle.index_spaces.specs.Laws.{PointsAreListed}
 use Rattle.graph_terms.specs.declared.verb.Access.{Access}
 use Rattle.graph_terms.specs.declared.format.Format.TheVariants.{Three}
 use Rattle.graph_terms.specs.Format.{rank, has_since}
+use Rattle.graph_terms.specs.Limits.{AllowsNoMore, limits, limits_of_three}
 use Rattle.graph_terms.specs.Name.{is_name, is_name_in}
 use Rattle.graph_terms.specs.Table.{verb_parts, verb_places, is_row, kind_places, any_placed, Placed, verb_kind, verb_of, NumbersFit}
 use Rattle.graph_terms.specs.declared.table.Kind.{Kind}
@@ -194,7 +195,15 @@ ItemsBelowBytes = (g : GraphValue) → 1 + length g.decls + length g.lines ≤ l
 
 -- within the limits the text so far is short
 abbrev pub ShortWithinLimits : Type 0
-ShortWithinLimits = (g : GraphValue) (b : Bool) → (b || is_beyond g) ≡ false → length (head g) ≤ 1048576
+ShortWithinLimits = (g : GraphValue) (b : Bool) → (b || is_beyond g) ≡ false → length (head g) ≤ (limits g.format).text
+
+-- a later format limits no quantity more
+abbrev pub LaterFormatsAllowMore : Type 0
+LaterFormatsAllowMore = (f h : Format) → has_since f h ≡ true → AllowsNoMore (limits f) (limits h)
+
+-- format 3 allows the most
+abbrev pub FormatThreeAllowsMost : Type 0
+FormatThreeAllowsMost = (f : Format) → AllowsNoMore (limits f) limits_of_three
 
 -- the edges of each line are among those of all lines
 abbrev pub EdgesOfEachLine : Type 0

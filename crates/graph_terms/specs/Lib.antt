@@ -1,4 +1,5 @@
 pub mod Format
+pub mod Limits
 pub mod Name
 pub mod Graph
 pub mod Edges

@@ -64,8 +64,8 @@ number_in_place g AcquireName w = line_number g w
 number_in_place g EventName w = line_number g w
 number_in_place g Column w = column_number_of g (pieces 46 w)
 number_in_place g Value w = unwrap_or (value_of w) 0
-number_in_place g Weight w = unwrap_or (weight_of w) 0
-number_in_place g Count w = unwrap_or (count_of w) 0
+number_in_place g Weight w = unwrap_or (weight_of g.format w) 0
+number_in_place g Count w = unwrap_or (count_of g.format w) 0
 number_in_place g _ w = 0
 
 abbrev pub number_in : GraphValue → Placed → ℕ
@@ -195,10 +195,10 @@ abbrev pub lock_draft : GraphValue → List (List ℕ) → Option Draft
 lock_draft g (name ∷ []) = Some (lock_with name)
 lock_draft g _ = None
 
-abbrev pub barrier_with : List ℕ → List ℕ → Op → List ℕ → Draft
-barrier_with name count o first = record {
+abbrev pub barrier_with : Format → List ℕ → List ℕ → Op → List ℕ → Draft
+barrier_with format name count o first = record {
   placed = (NewName, name) ∷ (Count, count) ∷ (Value, first) ∷ [];
-  item = inl (decl.Barrier name (unwrap_or (count_of count) 0) o (unwrap_or (value_of first) 0));
+  item = inl (decl.Barrier name (unwrap_or (count_of format count) 0) o (unwrap_or (value_of first) 0));
 }
 
 -- the reduction that a word names
@@ -206,7 +206,7 @@ abbrev pub op_of : List ℕ → Option Op
 op_of w = cond (same_word w (codes "sum")) (Some op.Sum) (cond (same_word w (codes "min")) (Some op.Min) (cond (same_word w (codes "max")) (Some op.Max) None))
 
 abbrev pub barrier_draft : GraphValue → List (List ℕ) → Option Draft
-barrier_draft g (name ∷ count ∷ w ∷ first ∷ []) = option_map (λ o. barrier_with name count o first) (op_of w)
+barrier_draft g (name ∷ count ∷ w ∷ first ∷ []) = option_map (λ o. barrier_with g.format name count o first) (op_of w)
 barrier_draft g _ = None
 
 abbrev pub decl_draft : GraphValue → List (List ℕ) → Option Draft

@@ -37,4 +37,4 @@ pub record IsKnownDecl (g : GraphValue) (d : Decl) : Type 0 where
   pub new : is_used g (decl_name d) ≡ false
   pub once : decl_repeats d ≡ false
   pub known : decl_unknown g d ≡ false
-  pub counted : decl_misnumbered d ≡ false
+  pub counted : decl_misnumbered g.format d ≡ false

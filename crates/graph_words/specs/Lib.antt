@@ -1,4 +1,5 @@
 pub mod Text
+pub mod Limits
 pub mod Words
 pub mod Cuts
 pub mod Draft

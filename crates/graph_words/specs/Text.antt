@@ -2,7 +2,7 @@
 use Rattle.std.specs.Prelude.{◌≡◌, ℕ, ◌≤◌, ◌&&◌, nat_lt, nat_eq, Bool, cond, List, [], ◌∷◌, ◌++◌, length, codes, Option, Some, None}
 use Rattle.std.specs.List.{starts_with}
 use Rattle.graph_comments.specs.Comments.{bare_text, number_in_whole}
-use Rattle.graph_terms.specs.declared.limits.TheConstants.{MAX_TEXT}
+use Rattle.graph_terms.specs.Limits.{limits}
 use Rattle.graph_terms.specs.Graph.{GraphValue}
 use Rattle.graph_terms.specs.declared.format.Format.TheVariants.{Three}
 use Rattle.graph_terms.specs.Spelling.{head, header, spelled, placed_words}
@@ -38,7 +38,7 @@ IsBareOf bytes (Some bare) = bare ≡ bare_of bytes
 -- the bytes are the text of the graph, with comments
 pub record GraphText (bytes : List ℕ) (g : GraphValue) : Type 0 where
   pub is_text : bare_of bytes ≡ text g
-  pub short : length (bare_of bytes) ≤ MAX_TEXT
+  pub short : length (bare_of bytes) ≤ (limits g.format).text
   pub is_graph : IsGraph g
 
 -- the words of a verb by its row, of which a merge has none

@@ -2,7 +2,7 @@
 use Rattle.std.specs.Prelude.{ℕ, ◌+◌, ◌==◌, nat_lt, nat_le, Bool, true, false, cond, ◌&&◌, List, [], ◌∷◌, Option, Some, None, map}
 use Rattle.std.specs.List.{list_all, slice_split}
 use Rattle.index_spaces.specs.declared.limits.TheConstants.{LAST_POINT}
-use Rattle.graph_terms.specs.declared.limits.TheConstants.{MAX_COUNT}
+use Rattle.graph_terms.specs.Limits.{limits}
 use Rattle.graph_terms.specs.declared.format.Format.{Format}
 use Rattle.graph_terms.specs.Name.{is_name_in}
 use Rattle.basics.specs.Numbers.{number_up_to}
@@ -20,13 +20,13 @@ abbrev pub above : ℕ → Option ℕ → Option ℕ
 above low None = None
 above low (Some n) = cond (nat_lt low n) (Some n) None
 
--- a number from 1 to 8,192
-abbrev pub count_of : List ℕ → Option ℕ
-count_of w = above 0 (number_up_to MAX_COUNT w)
+-- a number from 1 to the most arrivals that a phase of a format counts
+abbrev pub count_of : Format → List ℕ → Option ℕ
+count_of format w = above 0 (number_up_to (limits format).count w)
 
--- a number from 2 to 8,192
-abbrev pub weight_of : List ℕ → Option ℕ
-weight_of w = above 1 (number_up_to MAX_COUNT w)
+-- a number from 2 to as many
+abbrev pub weight_of : Format → List ℕ → Option ℕ
+weight_of format w = above 1 (number_up_to (limits format).count w)
 
 abbrev pub both_numbers : Option ℕ → Option ℕ → Option (ℕ × ℕ)
 both_numbers (Some lo) (Some hi) = Some (lo, hi)

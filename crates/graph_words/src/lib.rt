@@ -5,6 +5,7 @@
 pub mod comments;
 pub mod cuts;
 pub mod intervals;
+pub mod limits;
 pub mod names;
 pub mod numbers;
 pub mod words;

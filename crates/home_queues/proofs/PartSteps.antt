@@ -8,6 +8,7 @@ use Rattle.crossbeam_deque.specs.Handles.{worker_deque, worker_view, worker_inde
 use Rattle.basics.specs.Sums.{total, only}
 use Rattle.home_queues.specs.DequeRule.{with_put, with_taken}
 use Rattle.home_queues.specs.Counts.{CountsValue, one_more, counted}
+use Rattle.home_queues.specs.Room.{room_for}
 use Rattle.home_queues.specs.Parts.{Owner, deque_of, deques_of, stolen, IsOwnerWith, IsStealRight, IsPart}
 use Rattle.home_queues.specs.declared.deque_view.DequeView.{DequeView}
 use Rattle.home_queues.specs.declared.deque.StealRight.{StealRight}
@@ -26,7 +27,7 @@ one_more-get counts x y lt = dite (ℕ_discrete y x)
 pub same_owner : (n shares : ℕ) (v w : Owner) → IsOwnerWith n shares v → SameWorker v w → (worker_view w).lines ≡ (worker_view v).lines → (worker_view w).shares ≡ (worker_view v).shares → IsOwnerWith n shares w
 same_owner n shares v w h same lines share = record { flavor = same.1 ∙ h.flavor; lines = lines ∙ h.lines; shares_is = share ∙ h.shares_is }
 
-pub puts_one : (number n : ℕ) (own next : Owner) (rs : List StealRight) (p t : CountsValue) (x : ℕ) → IsPart number n own rs p t → x < n → p.all < 131072
+pub puts_one : (number n : ℕ) (own next : Owner) (rs : List StealRight) (p t : CountsValue) (x : ℕ) → IsPart number n own rs p t → x < n → p.all < room_for n
     → SameWorker own next → worker_index next ≡ worker_index own + 1 → worker_view next ≡ with_put (worker_view own) (x ∷ [])
     → IsPart number n next rs (counted p x) t
 puts_one number n own next rs p t x h below room same index is =

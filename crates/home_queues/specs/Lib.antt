@@ -2,6 +2,7 @@ pub mod DequeRule
 pub mod Counts
 pub mod Hints
 pub mod Parts
+pub mod Room
 pub mod Opening
 pub mod Closing
 pub mod Tallies

@@ -4,6 +4,7 @@ use Rattle.std.specs.Prelude.{Vec}
 use Rattle.std.specs.declared.alloc.Global.{Global}
 use Rattle.crossbeam_deque.specs.Handles.{worker_deque, worker_flavor, worker_view, worker_capacity, worker_index, view}
 use Rattle.home_queues.specs.Hints.{Deque}
+use Rattle.home_queues.specs.Room.{room_for}
 use Rattle.home_queues.specs.Parts.{Owner, deques_of, IsStealRight}
 use Rattle.home_queues.specs.declared.deque_view.DequeView.{DequeView}
 use Rattle.home_queues.specs.declared.deque.StealRight.{StealRight}
@@ -14,7 +15,7 @@ fresh_view n shares = record { lines = n; shares = shares; put = []; taken = [] 
 -- an owner of an empty deque, with so many shares
 pub record IsFresh (n shares : ℕ) (w : Owner) : Type 0 where
   pub flavor : worker_flavor w ≡ 0
-  pub capacity : 131072 ≤ worker_capacity w
+  pub capacity : room_for n ≤ worker_capacity w
   pub index : worker_index w ≡ 0
   pub known : worker_view w ≡ fresh_view n shares
 

@@ -6,6 +6,7 @@ use Rattle.crossbeam_deque.specs.declared.handles.Worker.{Worker}
 use Rattle.basics.specs.Sums.{total, only}
 use Rattle.home_queues.specs.Counts.{CountsValue}
 use Rattle.home_queues.specs.Hints.{Deque}
+use Rattle.home_queues.specs.Room.{room_for}
 use Rattle.home_queues.specs.declared.deque_view.DequeView.{DequeView}
 use Rattle.home_queues.specs.declared.deque_rule.DequeRule.{DequeRule}
 use Rattle.home_queues.specs.declared.deque.StealRight.{StealRight}
@@ -43,9 +44,9 @@ pub record IsPart (number n : ℕ) (own : Owner) (rights : List StealRight) (pus
   pub deque : slice_get (deques_of rights) number ≡ Some (worker_deque own)
   pub owner : IsOwnerWith n 1 own
   pub right : All (IsStealRight n) rights
-  pub capacity : 131072 ≤ worker_capacity own
+  pub capacity : room_for n ≤ worker_capacity own
   pub index : worker_index own ≤ pushed.all
-  pub room : pushed.all ≤ 131072
+  pub room : pushed.all ≤ room_for n
   pub put_len : length (worker_view own).put ≡ pushed.all
   pub most : taken.all ≤ 2 ^ 60
   pub pushed_len : length pushed.each ≡ n

@@ -1,6 +1,7 @@
 //! One deque: its owner, and who may steal from it.
 ghost use Rattle.std.specs.Prelude.{◌≡◌, ◌+◌, ◌-◌, ◌<◌, ◌≤◌, ◌^◌, ◌⊎◌, IfOk, IfSome, MatchOption, [], ◌∷◌, length};
 ghost use Rattle.crossbeam_deque.specs.Handles.{IsPassOf, SameWorker, worker_deque, stealer_deque, worker_flavor, worker_view, worker_capacity, worker_index, view};
+ghost use Rattle.home_queues.specs.Room.{room_for};
 ghost use Rattle.home_queues.specs.DequeRule.{first_view, with_lines, without_share, one_share, joined, with_put, with_taken, SawEmpty, IsDrained};
 
 use crate::deque_rule::{Bound, Cuts, DequeRule, Drains, Joins, Puts, SetsBound, Steals, Takes};
@@ -19,17 +20,31 @@ pub(crate) struct StealRight {
     pub(crate) pass: Pass<u32, DequeView>,
 }
 
-/// How many hints each owner may put in, and for how many each deque has room from the start.
-pub const ROOM: u32 = 131_072;
+/// For how many hints a deque has room for each number below the bound.
+const ROOM_EACH: u64 = 16;
+
+/// The least room of a deque.
+const LEAST_ROOM: u64 = 4_096;
+
+/// The most room of a deque.
+const MOST_ROOM: u64 = 131_072;
+
+/// How many hints each owner may put in, and for how many each deque has room from the start: 16 for each
+/// number below the bound, but not fewer than 4,096 and not more than 131,072.
+pub(crate) fn room_for(lines: u32) -> u64
+    ensures { result ≡ room_for lines }
+{
+    (ROOM_EACH * lines as u64).max(LEAST_ROOM).min(MOST_ROOM)
+}
 
 /// A deque for the numbers below `lines`, whose owner has all shares in it.
 pub(crate) fn new_owner(alloc: Global, lines: u32) -> Result<Owner, AllocError>
     requires { 0 < lines }
-    ensures capacity { IfOk result (λ w. ROOM ≤ worker_capacity w) }
+    ensures capacity { IfOk result (λ w. room_for lines ≤ worker_capacity w) }
     ensures new { IfOk result (λ w. (worker_flavor w ≡ 0) × (worker_index w ≡ 0)
         × (worker_view w ≡ with_lines lines first_view)) }
 {
-    let mut owner = Owner::fifo_as(alloc, ROOM as usize)?;
+    let mut owner = Owner::fifo_as(alloc, room_for(lines) as usize)?;
     set_bound::<Brand>(&mut owner, lines);
     Ok(owner)
 }
@@ -59,7 +74,8 @@ pub(crate) fn new_right(owner: &mut Owner) -> Result<StealRight, AllocError>
     Ok(StealRight { stealer, pass })
 }
 
-/// Puts a number in at the back. There is room as long as the owner has put in fewer than `ROOM`.
+/// Puts a number in at the back. There is room as long as the owner has put in fewer than there is room
+/// for from the start.
 pub(crate) fn put(owner: &mut Owner, line: u32)
     requires below { (line < (worker_view owner.old).lines) × (0 < (worker_view owner.old).shares) }
     requires room { worker_index owner.old < worker_capacity owner.old }

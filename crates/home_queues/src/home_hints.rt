@@ -2,10 +2,11 @@
 ghost use Rattle.std.specs.Prelude.{◌≡◌, ℕ, ◌+◌, ◌^◌, ◌<◌, ◌≤◌, ◌⊎◌, All, IfNone, IfSome, MatchOption, slice_index, length};
 ghost use Rattle.basics.specs.Sums.{total};
 ghost use Rattle.home_queues.specs.Hints.{after_pushed, after_taken, after_empty};
+ghost use Rattle.home_queues.specs.Room.{room_for};
 ghost use Rattle.home_queues.specs.Parts.{deques_of, IsStealRight, stolen};
 
 use crate::counts::Counts;
-use crate::deque::{Owner, ROOM, StealRight, put, steal, take};
+use crate::deque::{Owner, StealRight, put, room_for, steal, take};
 use crate::empty_count::EmptyCount;
 use realm_io::Hints;
 use std::marker::Model;
@@ -52,13 +53,14 @@ impl Model for HomeHints {
 
 impl Hints for HomeHints {
     /// Puts the number in at the back of its own deque. It is dropped exactly where it is not below the
-    /// bound, or this part has put in 131,072.
+    /// bound, or this part has put in as many as its deque has room for: 16 for each number below the bound,
+    /// but not fewer than 4,096 and not more than 131,072.
     fn push<R: Wait>(&mut self, _rt: &R, line: u32)
-        ensures dropped { (self.old.lines ≤ line) ⊎ (131072 ≤ self.old.pushes) → self.new ≡ self.old }
-        ensures put { line < self.old.lines → self.old.pushes < 131072 →
+        ensures dropped { (self.old.lines ≤ line) ⊎ (room_for self.old.lines ≤ self.old.pushes) → self.new ≡ self.old }
+        ensures put { line < self.old.lines → self.old.pushes < room_for self.old.lines →
             self.new ≡ after_pushed self.old line }
     {
-        if line < self.lines && self.pushed.all() < u64::from(ROOM) {
+        if line < self.lines && self.pushed.all() < room_for(self.lines) {
             put(&mut self.own, line);
             self.pushed.one_more(line);
         }

@@ -39,7 +39,7 @@ impl HomeQueues {
     /// workers, of which the first `workers` are for use. They have put nothing in and taken nothing.
     /// `NoMemory` comes where memory ran out.
     pub fn new(alloc: Global, lines: u32, workers: u32) -> Result<(HomeQueues, HomeList), NoMemory>
-        requires lines { (1 ≤ lines) × (lines ≤ 8192) }
+        requires lines { (1 ≤ lines) × (lines ≤ 65536) }
         requires workers { (1 ≤ workers) × (workers ≤ 8) }
         ensures lines { IfOk result (λ r. lines_of r.0 ≡ lines) }
         ensures workers { IfOk result (λ r. length (used_of r.1) ≡ workers) }

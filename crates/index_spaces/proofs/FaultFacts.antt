@@ -4,11 +4,12 @@ use Rattle.std.proofs.lemmas.Bool.{cases_lt, cond-true, cond-false, lt-ltb, le-l
 use Rattle.std.proofs.lemmas.List.{at_drop_more}
 use Rattle.std.proofs.lemmas.List.Elements.{All-head, All-tail}
 use Rattle.std.specs.List.{All}
+use Rattle.index_spaces.specs.declared.limits.SpaceLimits.{SpaceLimits}
 use Rattle.index_spaces.specs.declared.space.SpaceFault.{SpaceFault}
 use Rattle.index_spaces.specs.declared.space.SpaceFault.TheVariants.{Reversed, Order, Many, Large, NoMemory}
 use Rattle.index_spaces.specs.Space.{AscendAbove, space_size}
 use Rattle.index_spaces.specs.Laws.{FaultlessPairs, ReversedIsFirst, OrderIsFirst, IsInPlace, pair_at}
-use Rattle.index_spaces.specs.SpaceFault.{first_misplaced, too_large, or_too_large, space_fault}
+use Rattle.index_spaces.specs.SpaceFault.{first_misplaced, too_large, or_too_large, space_fault_in}
 
 pub first_misplaced-reversed : (k low : ℕ) (i : ℕ × ℕ) (s : List (ℕ × ℕ)) → i.1 < i.0 → first_misplaced k low (i ∷ s) ≡ Some (Reversed k)
 first_misplaced-reversed k low i s h = cond-true _ _ _ (lt-ltb i.1 i.0 h)
@@ -47,9 +48,9 @@ pub rest-later : (k low : ℕ) (s : List (ℕ × ℕ)) → k < length s → (get
     first_misplaced k low (drop k s) ≡ first_misplaced (k + 1) ((get_or s k (0, 0)).1 + 2) (drop (k + 1) s)
 rest-later k low s h u r = at_drop_more (first_misplaced k low) s k (0, 0) h ∙ first_misplaced-later k low (get_or s k (0, 0)) (drop (k + 1) s) u r
 
-pub space_fault-some : (s : List (ℕ × ℕ)) → 0 < length s → space_fault s ≡ or_too_large (first_misplaced 0 0 s) s
-space_fault-some [] h = absurd (omega arith)
-space_fault-some (i ∷ s) h = refl
+pub space_fault-some : (m : SpaceLimits) (s : List (ℕ × ℕ)) → 0 < length s → space_fault_in m s ≡ or_too_large m (first_misplaced 0 0 s) s
+space_fault-some m [] h = absurd (omega arith)
+space_fault-some m (i ∷ s) h = refl
 
 -- want of memory is never what is wrong with pairs
 first_misplaced-memory : (k low : ℕ) (s : List (ℕ × ℕ)) → first_misplaced k low s ≢ Some NoMemory
@@ -63,51 +64,51 @@ first_misplaced-memory k low (i ∷ s) e =
       ]
     ]
 
-too_large-memory : (s : List (ℕ × ℕ)) → too_large s ≢ Some NoMemory
-too_large-memory s e =
-    elim (cases_lt 64 (length s)) [
-      | inl h ↦ (let r = sym (cond-true _ _ _ (lt-ltb 64 (length s) h)) ∙ e in cc)
-      | inr u ↦ elim (cases_lt 1048576 (space_size s)) [
-        | inl h ↦ (let r = sym (cond-false _ _ _ (le-ltb 64 (length s) u) ∙ cond-true _ _ _ (lt-ltb 1048576 (space_size s) h)) ∙ e in cc)
-        | inr h ↦ (let r = sym (cond-false _ _ _ (le-ltb 64 (length s) u) ∙ cond-false _ _ _ (le-ltb 1048576 (space_size s) h)) ∙ e in cc)
+too_large-memory : (m : SpaceLimits) (s : List (ℕ × ℕ)) → too_large m s ≢ Some NoMemory
+too_large-memory m s e =
+    elim (cases_lt m.intervals (length s)) [
+      | inl h ↦ (let r = sym (cond-true _ _ _ (lt-ltb m.intervals (length s) h)) ∙ e in cc)
+      | inr u ↦ elim (cases_lt m.points (space_size s)) [
+        | inl h ↦ (let r = sym (cond-false _ _ _ (le-ltb m.intervals (length s) u) ∙ cond-true _ _ _ (lt-ltb m.points (space_size s) h)) ∙ e in cc)
+        | inr h ↦ (let r = sym (cond-false _ _ _ (le-ltb m.intervals (length s) u) ∙ cond-false _ _ _ (le-ltb m.points (space_size s) h)) ∙ e in cc)
       ]
     ]
 
-or_too_large-memory : (o : Option SpaceFault) (s : List (ℕ × ℕ)) → o ≢ Some NoMemory → or_too_large o s ≢ Some NoMemory
-or_too_large-memory (Some f) s n e = n e
-or_too_large-memory None s n e = too_large-memory s e
+or_too_large-memory : (m : SpaceLimits) (o : Option SpaceFault) (s : List (ℕ × ℕ)) → o ≢ Some NoMemory → or_too_large m o s ≢ Some NoMemory
+or_too_large-memory m (Some f) s n e = n e
+or_too_large-memory m None s n e = too_large-memory m s e
 
-pub space_fault-memory : (s : List (ℕ × ℕ)) → space_fault s ≢ Some NoMemory
-space_fault-memory [] e = cc
-space_fault-memory (i ∷ s) e = or_too_large-memory (first_misplaced 0 0 (i ∷ s)) (i ∷ s) (first_misplaced-memory 0 0 (i ∷ s)) e
+pub space_fault-memory : (m : SpaceLimits) (s : List (ℕ × ℕ)) → space_fault_in m s ≢ Some NoMemory
+space_fault-memory m [] e = cc
+space_fault-memory m (i ∷ s) e = or_too_large-memory m (first_misplaced 0 0 (i ∷ s)) (i ∷ s) (first_misplaced-memory 0 0 (i ∷ s)) e
 
 -- ascending intervals have none misplaced
 ascending-none : (k low : ℕ) (s : List (ℕ × ℕ)) → AscendAbove low s → first_misplaced k low s ≡ None
 ascending-none k low [] a = refl
 ascending-none k low (i ∷ s) a = first_misplaced-later k low i s a.1 a.0 ∙ ascending-none (k + 1) (i.1 + 2) s a.3
 
-or_too_large-none : (o : Option SpaceFault) (s : List (ℕ × ℕ)) → or_too_large o s ≡ None → (o ≡ None) × (too_large s ≡ None)
-or_too_large-none (Some f) s e = (e, absurd (let h : ⊥ = cc in h))
-or_too_large-none None s e = (refl, e)
+or_too_large-none : (m : SpaceLimits) (o : Option SpaceFault) (s : List (ℕ × ℕ)) → or_too_large m o s ≡ None → (o ≡ None) × (too_large m s ≡ None)
+or_too_large-none m (Some f) s e = (e, absurd (let h : ⊥ = cc in h))
+or_too_large-none m None s e = (refl, e)
 
-too_large-none : (s : List (ℕ × ℕ)) → (too_large s ≡ None) ↔ ((length s ≤ 64) × (space_size s ≤ 1048576))
-too_large-none s = (
-  λ e. elim (cases_lt 64 (length s)) [
-    | inl h ↦ (let r = sym (cond-true _ _ _ (lt-ltb 64 (length s) h)) ∙ e in cc)
-    | inr u ↦ elim (cases_lt 1048576 (space_size s)) [
-      | inl h ↦ (let r = sym (cond-false _ _ _ (le-ltb 64 (length s) u) ∙ cond-true _ _ _ (lt-ltb 1048576 (space_size s) h)) ∙ e in cc)
+too_large-none : (m : SpaceLimits) (s : List (ℕ × ℕ)) → (too_large m s ≡ None) ↔ ((length s ≤ m.intervals) × (space_size s ≤ m.points))
+too_large-none m s = (
+  λ e. elim (cases_lt m.intervals (length s)) [
+    | inl h ↦ (let r = sym (cond-true _ _ _ (lt-ltb m.intervals (length s) h)) ∙ e in cc)
+    | inr u ↦ elim (cases_lt m.points (space_size s)) [
+      | inl h ↦ (let r = sym (cond-false _ _ _ (le-ltb m.intervals (length s) u) ∙ cond-true _ _ _ (lt-ltb m.points (space_size s) h)) ∙ e in cc)
       | inr h ↦ (u, h)
     ]
   ],
-  λ h. cond-false _ _ _ (le-ltb 64 (length s) h.0) ∙ cond-false _ _ _ (le-ltb 1048576 (space_size s) h.1),
+  λ h. cond-false _ _ _ (le-ltb m.intervals (length s) h.0) ∙ cond-false _ _ _ (le-ltb m.points (space_size s) h.1),
 )
 
 pub faultless_pairs : FaultlessPairs
-faultless_pairs [] w = (λ e. cc, λ h. absurd (let some : 0 < 0 = h.0.0 in omega arith))
-faultless_pairs (i ∷ s) w = (
-  λ e. let parts = or_too_large-none (first_misplaced 0 0 (i ∷ s)) (i ∷ s) e in let sizes = (too_large-none (i ∷ s)).0 parts.1 in
+faultless_pairs m [] w = (λ e. cc, λ h. absurd (let some : 0 < 0 = h.0.0 in omega arith))
+faultless_pairs m (i ∷ s) w = (
+  λ e. let parts = or_too_large-none m (first_misplaced 0 0 (i ∷ s)) (i ∷ s) e in let sizes = (too_large-none m (i ∷ s)).0 parts.1 in
       ((omega arith, first_misplaced-none 0 0 (i ∷ s) parts.0 w), sizes.0, sizes.1),
-  λ h. ap (λ o. or_too_large o (i ∷ s)) (ascending-none 0 0 (i ∷ s) h.0.1) ∙ (too_large-none (i ∷ s)).1 (h.1, h.2),
+  λ h. ap (λ o. or_too_large m o (i ∷ s)) (ascending-none 0 0 (i ∷ s) h.0.1) ∙ (too_large-none m (i ∷ s)).1 (h.1, h.2),
 )
 
 -- where the interval at a place may begin
@@ -182,24 +183,24 @@ order_from m low (i ∷ s) n e =
     ]
 
 -- neither too many pairs nor too many points are reported as a misplaced pair
-too_large-cases : (s : List (ℕ × ℕ)) (f : SpaceFault) → too_large s ≡ Some f → (f ≡ Many) ⊎ (f ≡ Large)
-too_large-cases s f e =
-    elim (cases_lt 64 (length s)) [
-      | inl h ↦ inl (let r = sym (cond-true _ _ _ (lt-ltb 64 (length s) h)) ∙ e in cc)
-      | inr u ↦ elim (cases_lt 1048576 (space_size s)) [
-        | inl h ↦ inr (let r = sym (cond-false _ _ _ (le-ltb 64 (length s) u) ∙ cond-true _ _ _ (lt-ltb 1048576 (space_size s) h)) ∙ e in cc)
-        | inr h ↦ (let r = sym (cond-false _ _ _ (le-ltb 64 (length s) u) ∙ cond-false _ _ _ (le-ltb 1048576 (space_size s) h)) ∙ e in cc)
+too_large-cases : (m : SpaceLimits) (s : List (ℕ × ℕ)) (f : SpaceFault) → too_large m s ≡ Some f → (f ≡ Many) ⊎ (f ≡ Large)
+too_large-cases m s f e =
+    elim (cases_lt m.intervals (length s)) [
+      | inl h ↦ inl (let r = sym (cond-true _ _ _ (lt-ltb m.intervals (length s) h)) ∙ e in cc)
+      | inr u ↦ elim (cases_lt m.points (space_size s)) [
+        | inl h ↦ inr (let r = sym (cond-false _ _ _ (le-ltb m.intervals (length s) u) ∙ cond-true _ _ _ (lt-ltb m.points (space_size s) h)) ∙ e in cc)
+        | inr h ↦ (let r = sym (cond-false _ _ _ (le-ltb m.intervals (length s) u) ∙ cond-false _ _ _ (le-ltb m.points (space_size s) h)) ∙ e in cc)
       ]
     ]
 
-misplaced_only : (o : Option SpaceFault) (s : List (ℕ × ℕ)) (f : SpaceFault) → f ≢ Many → f ≢ Large → or_too_large o s ≡ Some f → o ≡ Some f
-misplaced_only (Some g) s f a b e = e
-misplaced_only None s f a b e = elim (too_large-cases s f e) [ inl x ↦ absurd (a x) | inr x ↦ absurd (b x) ]
+misplaced_only : (m : SpaceLimits) (o : Option SpaceFault) (s : List (ℕ × ℕ)) (f : SpaceFault) → f ≢ Many → f ≢ Large → or_too_large m o s ≡ Some f → o ≡ Some f
+misplaced_only m (Some g) s f a b e = e
+misplaced_only m None s f a b e = elim (too_large-cases m s f e) [ inl x ↦ absurd (a x) | inr x ↦ absurd (b x) ]
 
 pub reversed_is_first : ReversedIsFirst
-reversed_is_first [] k e = cc
-reversed_is_first (i ∷ s) k e =
-    let found = reversed_from 0 0 (i ∷ s) k (misplaced_only (first_misplaced 0 0 (i ∷ s)) (i ∷ s) (Reversed k) (λ x. cc) (λ x. cc) e) in
+reversed_is_first m [] k e = cc
+reversed_is_first m (i ∷ s) k e =
+    let found = reversed_from 0 0 (i ∷ s) k (misplaced_only m (first_misplaced 0 0 (i ∷ s)) (i ∷ s) (Reversed k) (λ x. cc) (λ x. cc) e) in
     let same : k ≡ found.0 = omega (arith, found.1.number) in
     rw same (found.1.within, λ j l. in_place-from_zero (i ∷ s) j (found.1.before j l), found.2)
 
@@ -208,9 +209,9 @@ low_at-above s zero h = absurd (omega arith)
 low_at-above s (suc k) h = (omega arith, let e : suc k - 1 ≡ k = omega arith in rw e h)
 
 pub order_is_first : OrderIsFirst
-order_is_first [] k e = cc
-order_is_first (i ∷ s) k e =
-    let found = order_from 0 0 (i ∷ s) k (misplaced_only (first_misplaced 0 0 (i ∷ s)) (i ∷ s) (Order k) (λ x. cc) (λ x. cc) e) in
+order_is_first m [] k e = cc
+order_is_first m (i ∷ s) k e =
+    let found = order_from 0 0 (i ∷ s) k (misplaced_only m (first_misplaced 0 0 (i ∷ s)) (i ∷ s) (Order k) (λ x. cc) (λ x. cc) e) in
     let same : k ≡ found.0 = omega (arith, found.1.number) in
     let low = low_at-above (i ∷ s) found.0 found.3 in
     rw same (found.1.within, λ j l. in_place-from_zero (i ∷ s) j (found.1.before j l), found.2, low.0, low.1)

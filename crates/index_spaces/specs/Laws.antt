@@ -2,11 +2,11 @@
 use Rattle.std.specs.Prelude.{◌≡◌, ℕ, ◌==◌, cond, false, ◌+◌, ◌-◌, ◌^◌, ◌<◌, ◌≤◌, ◌↔◌, List, ◌++◌, length, take, drop, slice_index, slice_index_or, All, Contains, Some, None, IsTrue, Option, true, get_or}
 use Rattle.std.specs.List.Sorted.{IsStrictlyIncreasing}
 use Rattle.index_spaces.specs.declared.space.SpaceFault.TheVariants.{Reversed, Order}
-use Rattle.index_spaces.specs.declared.limits.TheConstants.{MAX_INTERVALS, MAX_POINTS}
+use Rattle.index_spaces.specs.declared.limits.SpaceLimits.{SpaceLimits}
 use Rattle.index_spaces.specs.Space.{interval_has, has_point, points, space_size, rank, point_at, IsSpace, IsWithin}
 use Rattle.index_spaces.specs.Column.{ColumnValue, cell_of, with_cell}
 use Rattle.index_spaces.specs.Run.{interval_size, IsRun, IsRunAt, WritesRun, WritesPoints, written_over}
-use Rattle.index_spaces.specs.SpaceFault.{space_fault}
+use Rattle.index_spaces.specs.SpaceFault.{space_fault_in}
 use Rattle.index_spaces.specs.Held.{HoldsOtherwise}
 use Rattle.std.specs.Option.{IsSomeAnd}
 use Rattle.std.specs.declared.vec.Vec.{Vec}
@@ -33,7 +33,8 @@ SamePointsSameIntervals = (s t : List (ℕ × ℕ)) → IsSpace s → IsSpace t 
 
 -- pairs have no fault exactly where they make a space of few enough intervals and points
 abbrev pub FaultlessPairs : Type 0
-FaultlessPairs = (pairs : List (ℕ × ℕ)) → All (λ (i : ℕ × ℕ). i.1 < 2 ^ 32) pairs → (space_fault pairs ≡ None) ↔ (IsSpace pairs × (length pairs ≤ MAX_INTERVALS) × (space_size pairs ≤ MAX_POINTS))
+FaultlessPairs = (m : SpaceLimits) (pairs : List (ℕ × ℕ)) → All (λ (i : ℕ × ℕ). i.1 < 2 ^ 32) pairs →
+    (space_fault_in m pairs ≡ None) ↔ (IsSpace pairs × (length pairs ≤ m.intervals) × (space_size pairs ≤ m.points))
 
 -- the pair at a place
 abbrev pub pair_at : List (ℕ × ℕ) → ℕ → ℕ × ℕ
@@ -45,12 +46,12 @@ IsInPlace pairs k = ((pair_at pairs k).0 ≤ (pair_at pairs k).1) × (0 < k → 
 
 -- the pair that is reported as reversed is so, and all before it are in place
 abbrev pub ReversedIsFirst : Type 0
-ReversedIsFirst = (pairs : List (ℕ × ℕ)) (k : ℕ) → space_fault pairs ≡ Some (Reversed k) →
+ReversedIsFirst = (m : SpaceLimits) (pairs : List (ℕ × ℕ)) (k : ℕ) → space_fault_in m pairs ≡ Some (Reversed k) →
     (k < length pairs) × ((j : ℕ) → j < k → IsInPlace pairs j) × ((pair_at pairs k).1 < (pair_at pairs k).0)
 
 -- the pair that is reported out of order is not reversed, begins too low, and all before it are in place
 abbrev pub OrderIsFirst : Type 0
-OrderIsFirst = (pairs : List (ℕ × ℕ)) (k : ℕ) → space_fault pairs ≡ Some (Order k) →
+OrderIsFirst = (m : SpaceLimits) (pairs : List (ℕ × ℕ)) (k : ℕ) → space_fault_in m pairs ≡ Some (Order k) →
     (k < length pairs) × ((j : ℕ) → j < k → IsInPlace pairs j) × ((pair_at pairs k).0 ≤ (pair_at pairs k).1) × (0 < k) × ((pair_at pairs k).0 < (pair_at pairs (k - 1)).1 + 2)
 
 -- each interval begins at least two above the end of one before it

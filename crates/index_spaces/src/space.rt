@@ -10,7 +10,7 @@ mod merges;
 use self::faults::fault_of;
 use self::merges::{covers, meet, overlaps};
 use crate::NoMemory;
-use crate::limits::MAX_POINTS;
+use crate::limits::{MAX_INTERVALS, MAX_POINTS, SpaceLimits};
 use std::alloc::{AllocError, Global};
 use std::marker::Model;
 
@@ -23,9 +23,9 @@ pub enum SpaceFault {
     Reversed(u32),
     /// The first number of this pair is not at least two above the second number of the one before.
     Order(u32),
-    /// There are more than 64 pairs.
+    /// There are more pairs than a space may have intervals.
     Many,
-    /// There are more than 1,048,576 points.
+    /// There are more points than a space may have.
     Large,
     /// Memory ran out.
     NoMemory,
@@ -37,7 +37,7 @@ pub struct Space {
     intervals: Vec<(u32, u32)>,
     /// The rank of each interval's first point.
     ranks: Vec<u32>,
-    size: u32,
+    size: u64,
 }
 
 impl Model for Space {
@@ -55,12 +55,13 @@ impl Space {
     ghost use Rattle.std.specs.Prelude.{◌≡◌, ◌≢◌, ◌<◌, ◌≤◌, ◌^◌, ◌↔◌, length, IsTrue, IfOk, OnOk, IfErr, IfSome, IsSome, is_some, true, ◌&&◌, ℕ};
     ghost use Rattle.std.specs.List.{HoldsAt};
     ghost use Rattle.index_spaces.specs.Space.{interval_has, has_point, space_size, rank, point_at, IsSpace, IsWithin, Meet};
-    ghost use Rattle.index_spaces.specs.SpaceFault.{space_fault};
+    ghost use Rattle.index_spaces.specs.SpaceFault.{space_fault, space_fault_in};
+    ghost use Rattle.index_spaces.specs.declared.limits.TheConstants.{MAX_POINTS_OF_THREE};
     ghost use Rattle.index_spaces.specs.Run.{IsRun, IsRunAt};
 
     /// The space of these closed intervals, each a pair of its least and its greatest point. What
     /// is wrong comes in this order: there is no pair, the first pair that is reversed or out of
-    /// order, there are too many pairs, there are too many points.
+    /// order, there are more than 64 pairs, there are more than 1,048,576 points.
     pub fn new(alloc: Global, pairs: &[(u32, u32)]) -> Result<Space, SpaceFault>
         requires { length pairs.now < 2 ^ 32 }
         ensures intervals { IfOk result (λ s. s ≡ pairs.now) }
@@ -68,7 +69,27 @@ impl Space {
         ensures fault { IfErr result (λ e. e ≢ SpaceFault.NoMemory → space_fault pairs.now ≡ Some e) }
         ensures memory { result ≡ Err SpaceFault.NoMemory → space_fault pairs.now ≡ None }
     {
-        match fault_of(pairs) {
+        let limits = SpaceLimits {
+            intervals: MAX_INTERVALS,
+            points: MAX_POINTS,
+        };
+        Space::within(alloc, limits, pairs)
+    }
+
+    /// The same within other limits.
+    pub fn within(
+        alloc: Global,
+        limits: SpaceLimits,
+        pairs: &[(u32, u32)],
+    ) -> Result<Space, SpaceFault>
+        requires few { length pairs.now < 2 ^ 32 }
+        requires most { limits.points ≤ MAX_POINTS_OF_THREE }
+        ensures intervals { IfOk result (λ s. s ≡ pairs.now) }
+        ensures faultless { OnOk result (space_fault_in limits pairs.now ≡ None) }
+        ensures fault { IfErr result (λ e. e ≢ SpaceFault.NoMemory → space_fault_in limits pairs.now ≡ Some e) }
+        ensures memory { result ≡ Err SpaceFault.NoMemory → space_fault_in limits pairs.now ≡ None }
+    {
+        match fault_of(limits, pairs) {
             Some(fault) => Err(fault),
             None => Space::copy_of(alloc, pairs).map_err(|_| SpaceFault::NoMemory),
         }
@@ -77,7 +98,7 @@ impl Space {
     /// The space of a copy of these intervals.
     pub(crate) fn copy_of(alloc: Global, intervals: &[(u32, u32)]) -> Result<Space, AllocError>
         requires is_space { IsSpace intervals.now }
-        requires few { space_size intervals.now ≤ MAX_POINTS }
+        requires few { space_size intervals.now ≤ MAX_POINTS_OF_THREE }
         ensures { IfOk result (λ s. s ≡ intervals.now) }
     {
         Space::counted(alloc, Vec::from_slice(alloc, intervals)?)
@@ -86,14 +107,14 @@ impl Space {
     /// The space of these intervals.
     fn counted(alloc: Global, intervals: Vec<(u32, u32)>) -> Result<Space, AllocError>
         requires is_space { IsSpace intervals.items }
-        requires few { space_size intervals.items ≤ MAX_POINTS }
+        requires few { space_size intervals.items ≤ MAX_POINTS_OF_THREE }
         ensures { IfOk result (λ s. s ≡ intervals.items) }
     {
         let mut ranks = Vec::with_capacity(alloc, intervals.len())?;
-        let mut size = 0;
+        let mut size = 0u64;
         for interval in &intervals {
-            ranks.push(size)?;
-            size += interval.1 - interval.0 + 1;
+            ranks.push(size as u32)?;
+            size += u64::from(interval.1 - interval.0) + 1;
         }
         Ok(Space {
             intervals,
@@ -103,10 +124,10 @@ impl Space {
     }
 
     /// How many points it has.
-    pub fn size(&self) -> u32
+    pub fn size(&self) -> u64
         ensures size { result ≡ space_size self.now }
         ensures at_least { 1 ≤ result }
-        ensures at_most { result ≤ MAX_POINTS }
+        ensures at_most { result ≤ MAX_POINTS_OF_THREE }
     {
         self.size
     }

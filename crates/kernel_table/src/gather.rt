@@ -113,6 +113,6 @@ fn pick(number: u64, y: &Column, picks: &Space) -> u64
 {
     rank_of_point();
     let _ = picks.intervals();
-    let rank = number % u64::from(picks.size());
+    let rank = number % picks.size();
     y.get(picks.point(rank as u32)).unwrap()
 }

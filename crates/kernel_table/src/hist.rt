@@ -89,7 +89,7 @@ fn count_one(number: u64, cells: &mut [u64], over: &Space, bins: &Space)
     rank_of_point();
     let _ = bins.intervals();
     let _ = over.intervals();
-    let rank = number % u64::from(bins.size());
+    let rank = number % bins.size();
     let place = over.rank(bins.point(rank as u32)).unwrap() as usize;
     cells[place] = cells[place].wrapping_add(1);
 }

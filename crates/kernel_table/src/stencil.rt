@@ -73,10 +73,10 @@ fn has_run(space: &Space, first: u32, count: usize) -> bool
     ensures { IsTrue result → IsRun space.now (first, first + (count - 1)) }
 {
     let last = first + (count - 1) as u32;
-    space
-        .intervals()
-        .iter()
-        .any(|interval| interval.0 <= first && last <= interval.1)
+    let intervals = space.intervals();
+    // halving, since a space may have thousands of intervals
+    let k = intervals.partition_point(|interval| interval.1 < first);
+    k < intervals.len() && intervals[k].0 <= first && last <= intervals[k].1
 }
 
 /// Writes the sums for the points of a run of the space that is read: the inner ones from side by

@@ -25,9 +25,13 @@ abbrev pub merge_words : Form → List ℕ
 merge_words forms.Release = codes "on takes one event: put a mergei above, and wait for that\nNAME = mergei"
 merge_words _ = codes "on takes one event: put a merge above, and wait for that\nNAME = merge"
 
--- a merge of events, and a line of words with the merge behind them
+-- the format in which the line may wait for its events without a merge
+abbrev pub later_format : List ℕ
+later_format = codes "or write it in format 3, where on takes several events\n"
+
+-- a merge of events, a line of words with the merge behind them, and the format that takes the events themselves
 abbrev pub merge_lines : Form → List (List ℕ) → List (List ℕ) → List ℕ
-merge_lines f ws events = merge_words f ++ (flat_map before_space events ++ (codes "\n" ++ (flat_map behind_space ws ++ codes "NAME\n")))
+merge_lines f ws events = merge_words f ++ (flat_map before_space events ++ (codes "\n" ++ (flat_map behind_space ws ++ (codes "NAME\n" ++ later_format))))
 
 -- a merge of the events from word n - 1 on, and the line up to there with the merge
 abbrev pub merge_hint : Form → List (List ℕ) → ℕ → List ℕ

@@ -3,7 +3,7 @@
 ghost use Rattle.std.specs.Prelude.{◌≡◌, ◌++◌, ◌≤◌, drop, take, length, flat_map, OnOk};
 ghost use Rattle.std.specs.List.{list_any};
 ghost use Rattle.basics.specs.Words.{contents};
-ghost use Rattle.line_forms.specs.Hint.{before_space, behind_space, is_no_event, are_events, merge_words, merge_lines, merge_hint};
+ghost use Rattle.line_forms.specs.Hint.{before_space, behind_space, is_no_event, are_events, merge_words, later_format, merge_lines, merge_hint};
 
 use crate::blanks::begins_comment;
 use crate::form::Form;
@@ -25,7 +25,8 @@ pub(crate) fn put_merge_hint(
     put_merge_lines(out, form, front(words, kept), behind(words, kept))
 }
 
-/// Puts the two lines to write in place of one that has these words before these events.
+/// Puts the two lines to write in place of one that has these words before these events, and the
+/// format that takes the events themselves.
 pub fn put_merge_lines(
     out: &mut Vec<u8>,
     form: Form,
@@ -38,7 +39,15 @@ pub fn put_merge_lines(
     put_before(out, events)?;
     put(out, b"\n")?;
     put_behind(out, words)?;
-    put(out, b"NAME\n")
+    put(out, b"NAME\n")?;
+    put(out, later_format())
+}
+
+/// What is told of the format in which the line may wait for its events without a merge.
+fn later_format() -> &'static [u8]
+    ensures { result.now ≡ later_format }
+{
+    b"or write it in format 3, where on takes several events\n"
 }
 
 /// What is told of the merge that a line of the form may wait for. A release waits for one that

@@ -214,7 +214,7 @@ fn take_noted<'g, R: Wait>(
 ) -> Option<Work>
     requires idle { IsIdle lock.now.table_id seat.old }
     requires graph { seat.old.me.0.core.graph ≡ graph.now }
-    requires word { word < 128 }
+    requires word { word < 1024 }
     ensures place { KeepsPlace lock.now.table_id seat.old seat.new }
     ensures work { HasWork seat.new.me.0 result }
 {

@@ -1,8 +1,10 @@
 -- The marks of a flood, line by line.
 use Rattle.std.proofs.Common.{◌≡◌, ℕ, ◌+◌, ◌<◌, cond, ◌⊎◌, inl, inr, List, [], ◌∷◌, ◌++◌, length, refl, sym, ◌∙◌, ap, subst, arith, take}
-use Rattle.std.specs.Prelude.{Contains, ◌==◌, slice_index, slice_set, sum_by}
+use Rattle.std.specs.Prelude.{Contains, ◌==◌, Some, Vec, slice_get, slice_index, slice_set, sum_by}
+use Rattle.std.specs.Global.{Global}
 use Rattle.std.specs.List.{slice_index_or}
-use Rattle.std.proofs.lemmas.Bool.{cases_eq, cases_lt, eq-eqb, ne_eqb}
+use Rattle.std.proofs.lemmas.Bool.{cases_eq, eq-eqb, ne_eqb}
+use Rattle.std.proofs.lemmas.Option.{same_Some}
 use Rattle.std.proofs.lemmas.List.{length-set, length-append, get_or-set_same, get_or-set_other, take_more}
 use Rattle.std.proofs.lemmas.List.Elements.{Contains-append_left, Contains-push, Contains-push_cases, Contains-get_or}
 use Rattle.std.proofs.lemmas.List.Sums.{sum_by-set}
@@ -12,7 +14,7 @@ use Rattle.graph_terms.specs.Graph.{GraphValue, is_acquire_of}
 use Rattle.graph_terms.specs.Edges.{edges, edges_out_of}
 use Rattle.graph_terms.specs.Reservations.{Acquires}
 use Rattle.basics.proofs.ListFacts.{filter_contains}
-use Rattle.race_check.specs.High.{unmarked, IsMarking, IsTarget}
+use Rattle.race_check.specs.High.{unmarked, AreAcquires, IsMarking, IsTarget}
 use Rattle.graph_meaning.specs.Laws.{EdgesBetweenLines}
 use Rattle.graph_terms.specs.Fits.{IsGraph}
 use Rattle.graph_terms.proofs.Public.{passes_below}
@@ -102,25 +104,25 @@ targets_more mark old waiting mid between new stack es k below a b = marks_more 
     more : take (k + 1) es ≡ take k es ++ slice_index_or es k no_edge ∷ []
     more = take_more es k no_edge below
 
--- the acquires of a reservation among the lines below a number
-abbrev pub IsAcquireBelow : GraphValue → ℕ → ℕ → ℕ → Type 0
-IsAcquireBelow g l n i = Acquires g i l × (i < n)
+-- the lines of a list
+pub listed_more : (mark : ℕ) (old waiting mid between new stack xs : List ℕ) (k : ℕ) → k < length xs → IsMarking (Contains (take k xs)) mark old waiting mid between →
+    IsMarking (λ i. i ≡ slice_index xs k) mark mid between new stack → IsMarking (Contains (take (k + 1) xs)) mark old waiting new stack
+listed_more mark old waiting mid between new stack xs k below a b = marks_more (Contains (take k xs)) (λ i. i ≡ slice_index xs k) (Contains (take (k + 1) xs)) mark old waiting mid between new stack a b
+    (λ i t. subst (λ ys. Contains ys i) (sym more) (Contains-append_left (take k xs) (slice_index xs k ∷ []) i t))
+    (λ i e. subst (λ ys. Contains ys i) (sym more) (subst (Contains (take k xs ++ slice_index xs k ∷ [])) (sym e) (Contains-push (take k xs) (slice_index xs k))))
+    (λ i t. elim (Contains-push_cases (take k xs) (slice_index xs k) i (subst (λ ys. Contains ys i) more t)) [ inl c ↦ inl c | inr e ↦ inr (sym e) ])
+  where
+    more : take (k + 1) xs ≡ take k xs ++ slice_index xs k ∷ []
+    more = take_more xs k 0 below
 
-pub acquires_skip : (g : GraphValue) (l n mark : ℕ) (old waiting new stack : List ℕ) → (Acquires g n l → ⊥) → IsMarking (IsAcquireBelow g l n) mark old waiting new stack → IsMarking (IsAcquireBelow g l (n + 1)) mark old waiting new stack
-acquires_skip g l n mark old waiting new stack other a = marks_as (IsAcquireBelow g l n) (IsAcquireBelow g l (n + 1)) mark old waiting new stack
-    (λ i t. (t.0, (let b : i < n = t.1 in let r : i < n + 1 = omega arith in r)))
-    (λ i t. (t.0, elim (cases_lt i n) [ inl b ↦ b | inr up ↦ absurd (let b : i < n + 1 = t.1 in let e : i ≡ n = omega arith in other (subst (λ z. Acquires g z l) e t.0)) ])) a
+-- of a list of the acquires of a reservation
+pub acquires_marked : (g : GraphValue) (lists : List (Vec ℕ Global)) (l : ℕ) (v : Vec ℕ Global) → AreAcquires g lists (length g.lines) → slice_get lists l ≡ Some v → (mark : ℕ) (old waiting new stack : List ℕ) →
+    IsMarking (Contains v.items) mark old waiting new stack → IsMarking (λ i. Acquires g i l) mark old waiting new stack
+acquires_marked g lists l v are at mark old waiting new stack a = marks_as (Contains v.items) (λ i. Acquires g i l) mark old waiting new stack (λ i c. are.is l i (v, at, c))
+    (λ i t. (let c = are.all l i (passes_below (is_acquire_of l) g i t) t in subst (λ (z : Vec ℕ Global). Contains z.items i) (same_Some c.0 v (sym c.1 ∙ at)) c.2)) a
 
-pub acquires_more : (g : GraphValue) (l n mark : ℕ) (old waiting mid between new stack : List ℕ) → Acquires g n l → IsMarking (IsAcquireBelow g l n) mark old waiting mid between → IsMarking (λ i. i ≡ n) mark mid between new stack →
-    IsMarking (IsAcquireBelow g l (n + 1)) mark old waiting new stack
-acquires_more g l n mark old waiting mid between new stack acq a b = marks_more (IsAcquireBelow g l n) (λ i. i ≡ n) (IsAcquireBelow g l (n + 1)) mark old waiting mid between new stack a b
-    (λ i t. (t.0, (let b : i < n = t.1 in let r : i < n + 1 = omega arith in r)))
-    (λ i e. (subst (λ z. Acquires g z l) (sym e) acq, (let r : i < n + 1 = omega arith in r)))
-    (λ i t. elim (cases_lt i n) [ inl b ↦ inl (t.0, b) | inr up ↦ inr (let b : i < n + 1 = t.1 in let e : i ≡ n = omega arith in e) ])
-
-pub acquires_done : (g : GraphValue) (l mark : ℕ) (old waiting new stack : List ℕ) → IsMarking (IsAcquireBelow g l (length g.lines)) mark old waiting new stack → IsMarking (λ i. Acquires g i l) mark old waiting new stack
-acquires_done g l mark old waiting new stack a = marks_as (IsAcquireBelow g l (length g.lines)) (λ i. Acquires g i l) mark old waiting new stack (λ i t. t.0)
-    (λ i t. (t, passes_below (is_acquire_of l) g i t)) a
+pub acquires_known : (g : GraphValue) (lists : List (Vec ℕ Global)) (l : ℕ) (v : Vec ℕ Global) → AreAcquires g lists (length g.lines) → slice_get lists l ≡ Some v → (i : ℕ) → Contains v.items i → i < length g.lines
+acquires_known g lists l v are at i c = passes_below (is_acquire_of l) g i (are.is l i (v, at, c))
 
 -- the target of an edge out of a line is a line
 pub target_known : EdgesBetweenLines → (g : GraphValue) → IsGraph g → (x k : ℕ) (es : List Edge) → es ≡ edges_out_of g x → k < length es → (slice_index_or es k no_edge).to < length g.lines

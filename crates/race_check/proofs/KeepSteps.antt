@@ -1,9 +1,6 @@
 -- In which sections the lines lie, a block of acquires at a time.
-use Rattle.std.proofs.Common.{◌≡◌, ℕ, ◌+◌, ◌-◌, ◌<◌, ◌≤◌, true, inl, inr, List, length, sym, ◌∙◌, ap, subst, arith}
-use Rattle.std.specs.Prelude.{Option, Some, None, Vec, slice_get, slice_index}
-use Rattle.std.specs.Global.{Global}
-use Rattle.std.specs.List.{slice_index_or}
-use Rattle.std.specs.Option.{option_map_or}
+use Rattle.std.proofs.Common.{◌≡◌, ℕ, ◌+◌, ◌-◌, ◌<◌, ◌≤◌, true, inl, inr, List, length, sym, ◌∙◌, subst, arith}
+use Rattle.std.specs.Prelude.{slice_index}
 use Rattle.std.proofs.lemmas.Bool.{cases_lt}
 use Rattle.graph_terms.specs.Graph.{GraphValue, is_acquire_of}
 use Rattle.graph_terms.specs.Reservations.{Acquires}
@@ -16,19 +13,9 @@ use Rattle.section_sweeps.specs.Sections.{AreHeldSoFar, IsGrown, IsKept}
 use Rattle.race_check.specs.Inside.{AreBetween, IsBetween}
 use Rattle.race_check.proofs.Insides.{between_of, section_of}
 
-in_row : (h : Held) (l i : ℕ) (row : Vec (Option ℕ) Global) → slice_get h.acquires.items l ≡ Some row → option_map_or (λ (r : Vec (Option ℕ) Global). slice_index_or r.items i None) (slice_get h.acquires.items l) None ≡ slice_index_or row.items i None
-in_row h l i row at = ap (λ o. option_map_or (λ (r : Vec (Option ℕ) Global). slice_index_or r.items i None) o None) at
-
 -- all acquires have been kept
 pub held_by : (g : GraphValue) (h : Held) → AreHeldSoFar g h → ((q l i : ℕ) → Section g l q i → IsKept h l i) → IsHeld g h
-held_by g h so kept = record {
-  count = so.count;
-  each = λ l row at. record {
-    size = so.size l row at;
-    is = λ i q e. so.is l i q (in_row h l i row at ∙ e);
-    none = λ i q known e sec. kept q l i sec (in_row h l i row at ∙ e);
-  };
-}
+held_by g h so kept = record { is = so.is; none = λ l i q known e sec. kept q l i sec e }
 
 -- those below a number
 pub kept_all : (g : GraphValue) (h : Held) (first : ℕ) → length g.lines ≤ first → ((q l i : ℕ) → q < first → Section g l q i → IsKept h l i) → (q l i : ℕ) → Section g l q i → IsKept h l i

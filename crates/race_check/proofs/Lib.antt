@@ -5,6 +5,7 @@ pub mod BeyondLines
 pub mod HighFlood
 pub mod ExemptSummary
 pub mod ReservationFacts
+pub mod AcquireLists
 pub mod FloodMarks
 pub mod FloodSteps
 pub mod NeedSteps

@@ -5,7 +5,7 @@ use Rattle.std.proofs.lemmas.Bool.{true≢false, cases_lt, eq-eqb}
 use Rattle.std.proofs.lemmas.Option.{none-some, same_Some}
 use Rattle.std.proofs.lemmas.List.Elements.{Contains-append_right}
 use Rattle.graph_terms.specs.declared.verb.Line.{Line}
-use Rattle.graph_terms.specs.Graph.{GraphValue, line_passes, is_merge_ignore, is_release_of}
+use Rattle.graph_terms.specs.Graph.{GraphValue, is_release_of}
 use Rattle.graph_terms.specs.Fits.{IsGraph, named_lines}
 use Rattle.graph_terms.specs.Reservations.{Acquires, Releases}
 use Rattle.graph_meaning.specs.Rules.{ReleasedAt, ReleaseFaultAt, Everywhere, stands_on_merges}

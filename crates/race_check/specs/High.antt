@@ -1,5 +1,6 @@
 -- The marks of a flood, of which 0 is none.
-use Rattle.std.specs.Prelude.{◌≡◌, ℕ, ◌+◌, ◌<◌, ◌==◌, ◌≤◌, ◌⊎◌, Bool, true, false, cond, List, [], length, Contains, count_by, slice_index}
+use Rattle.std.specs.Prelude.{◌≡◌, ℕ, ◌+◌, ◌<◌, ◌==◌, ◌≤◌, ◌⊎◌, Bool, true, false, cond, List, [], length, Some, Vec, Contains, count_by, slice_get, slice_index}
+use Rattle.std.specs.Global.{Global}
 use Rattle.std.specs.List.{slice_index_or}
 use Rattle.graph_terms.specs.declared.verb.Edge.{Edge}
 use Rattle.graph_terms.specs.Graph.{GraphValue, never_comes, locks}
@@ -31,6 +32,16 @@ IsNext g x i = (e : Edge) × Contains (need_edges g) e × (e.from ≡ x) × (e.t
 -- all acquires of the reservations that are noted have a mark
 abbrev pub AreAcquiresMarked : GraphValue → List ℕ → List Bool → Type 0
 AreAcquiresMarked g marks noted = (l k : ℕ) → slice_index_or noted l false ≡ true → Acquires g k l → 0 < slice_index marks k
+
+-- line i stands in list l
+abbrev pub IsListed : List (Vec ℕ Global) → ℕ → ℕ → Type 0
+IsListed lists l i = (v : Vec ℕ Global) × (slice_get lists l ≡ Some v) × Contains v.items i
+
+-- a list for each reservation: only lines that acquire it stand there, and all that do below line m
+pub record AreAcquires (g : GraphValue) (lists : List (Vec ℕ Global)) (m : ℕ) : Type 0 where
+  pub count : length lists ≡ length (locks g)
+  pub is : (l i : ℕ) → IsListed lists l i → Acquires g i l
+  pub all : (l i : ℕ) → i < m → Acquires g i l → IsListed lists l i
 
 -- what a line counts for as one before others
 abbrev pub weight_of : GraphValue → ℕ → ℕ

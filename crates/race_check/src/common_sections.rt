@@ -5,7 +5,7 @@ ghost use Rattle.race_check.specs.Summaries.{AreAlone, ApartIn};
 ghost use Rattle.race_sweeps.specs.Held.{IsHeld};
 
 use graph_model::graph::Graph;
-use race_sweeps::line_sections::{Held, exclude};
+use race_sweeps::line_sections::Held;
 
 /// Whether two lines lie in sections of two different acquires of one reservation, not both shared.
 pub(crate) fn are_apart(graph: &Graph, held: &Held, one: u32, other: u32) -> bool
@@ -15,11 +15,5 @@ pub(crate) fn are_apart(graph: &Graph, held: &Held, one: u32, other: u32) -> boo
     requires alone { AreAlone graph.now }
     ensures { IsTrue result ↔ ((l : ℕ) × ApartIn graph.now l one other) }
 {
-    let _ = graph.lines();
-    for acquires in &held.acquires {
-        if exclude(graph, acquires[one as usize], acquires[other as usize]) {
-            return true;
-        }
-    }
-    false
+    held.are_apart(graph, one, other)
 }

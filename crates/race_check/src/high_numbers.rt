@@ -5,9 +5,9 @@ ghost use Rattle.graph_terms.specs.Graph.{locks, never_comes};
 ghost use Rattle.graph_terms.specs.Edges.{edges_out_of};
 ghost use Rattle.graph_terms.specs.Reservations.{Acquires};
 ghost use Rattle.graph_meaning.specs.Need.{IsHigh};
-ghost use Rattle.race_check.specs.High.{IsMarking, IsTarget, IsNext, AreAcquiresMarked, weight_of, IsFlooding, IsFlood};
+ghost use Rattle.race_check.specs.High.{IsMarking, IsTarget, IsNext, AreAcquires, AreAcquiresMarked, weight_of, IsFlooding, IsFlood};
 
-use crate::reservations::{acquires, freed};
+use crate::reservations::{acquires_of_all, freed};
 use graph_meaning::laws::edges_between_lines;
 use graph_model::graph::Graph;
 use index_spaces::NoMemory;
@@ -20,9 +20,10 @@ pub(crate) fn high_numbers(alloc: Global, graph: &Graph) -> Result<Vec<u32>, NoM
     ensures size { IfOk result (λ v. length v.items ≡ length graph.now.lines) }
     ensures high { IfOk result (λ v. (i : ℕ) → i < length graph.now.lines → IsHigh graph.now i (slice_index v.items i)) }
 {
+    let acquires = acquires_of_all(alloc, graph)?;
     let mut flood = Flood::new(alloc, graph)?;
-    flood.reach_from_unended(graph)?;
-    flood.reach_from_all(graph)?;
+    flood.reach_from_unended(graph, acquires.as_slice())?;
+    flood.reach_from_all(graph, acquires.as_slice())?;
     Ok(flood.marks.highs)
 }
 
@@ -93,17 +94,34 @@ impl Marks {
     }
 
     /// Marks the acquires of a reservation.
-    fn mark_acquires(&mut self, graph: &Graph, lock: u32, mark: u32) -> Result<(), NoMemory>
+    fn mark_acquires(
+        &mut self,
+        graph: &Graph,
+        acquires: &[Vec<u32>],
+        lock: u32,
+        mark: u32,
+    ) -> Result<(), NoMemory>
+        requires lists { AreAcquires graph.now acquires.now (length graph.now.lines) }
+        requires lock { lock < length (locks graph.now) }
         requires size { length self.old.highs.items ≡ length graph.now.lines }
         requires some { 0 < mark }
         ensures { OnOk result
             (IsMarking (λ i. Acquires graph.now i lock) mark self.old.highs.items self.old.stack.items
             self.new.highs.items self.new.stack.items) }
     {
-        for line in 0..graph.lines() {
-            if acquires(graph, line, lock) {
-                self.mark(line, mark)?;
-            }
+        self.mark_all(acquires[lock as usize].as_slice(), mark)
+    }
+
+    /// Marks the lines of a list.
+    fn mark_all(&mut self, lines: &[u32], mark: u32) -> Result<(), NoMemory>
+        requires known { (i : ℕ) → Contains lines.now i → i < length self.old.highs.items }
+        requires some { 0 < mark }
+        ensures { OnOk result
+            (IsMarking (Contains lines.now) mark self.old.highs.items self.old.stack.items
+            self.new.highs.items self.new.stack.items) }
+    {
+        for line in lines {
+            self.mark(*line, mark)?;
         }
         Ok(())
     }
@@ -130,22 +148,24 @@ impl Flood {
     }
 
     /// Floods from the lines that never come.
-    fn reach_from_unended(&mut self, graph: &Graph) -> Result<(), NoMemory>
-        requires { IsFlood graph.now (λ m. false) self.old.marks.highs.items self.old.marks.stack.items self.old.noted.items }
+    fn reach_from_unended(&mut self, graph: &Graph, acquires: &[Vec<u32>]) -> Result<(), NoMemory>
+        requires lists { AreAcquires graph.now acquires.now (length graph.now.lines) }
+        requires flood { IsFlood graph.now (λ m. false) self.old.marks.highs.items self.old.marks.stack.items self.old.noted.items }
         ensures { OnOk result
             (IsFlood graph.now (never_comes graph.now) self.new.marks.highs.items self.new.marks.stack.items self.new.noted.items) }
     {
         for line in 0..graph.lines() {
             if graph.never_comes(line) {
-                self.reach(graph, line)?;
+                self.reach(graph, acquires, line)?;
             }
         }
         Ok(())
     }
 
     /// Floods from the other lines, the last one first.
-    fn reach_from_all(&mut self, graph: &Graph) -> Result<(), NoMemory>
-        requires { IsFlood graph.now (never_comes graph.now) self.old.marks.highs.items self.old.marks.stack.items self.old.noted.items }
+    fn reach_from_all(&mut self, graph: &Graph, acquires: &[Vec<u32>]) -> Result<(), NoMemory>
+        requires lists { AreAcquires graph.now acquires.now (length graph.now.lines) }
+        requires flood { IsFlood graph.now (never_comes graph.now) self.old.marks.highs.items self.old.marks.stack.items self.old.noted.items }
         ensures size { OnOk result (length self.new.marks.highs.items ≡ length graph.now.lines) }
         ensures high { OnOk result ((i : ℕ) → i < length graph.now.lines → IsHigh graph.now i (slice_index self.new.marks.highs.items i)) }
     {
@@ -154,14 +174,15 @@ impl Flood {
         while line > 0 {
             line -= 1;
             if !graph.never_comes(line) {
-                self.reach(graph, line)?;
+                self.reach(graph, acquires, line)?;
             }
         }
         Ok(())
     }
 
     /// Floods from a line that is no heavier than those done.
-    fn reach(&mut self, graph: &Graph, line: u32) -> Result<(), NoMemory>
+    fn reach(&mut self, graph: &Graph, acquires: &[Vec<u32>], line: u32) -> Result<(), NoMemory>
+        requires lists { AreAcquires graph.now acquires.now (length graph.now.lines) }
         requires known { line < length graph.now.lines }
         requires flood { (done : ℕ → Bool)
             × IsFlood graph.now done self.old.marks.highs.items self.old.marks.stack.items self.old.noted.items }
@@ -175,11 +196,12 @@ impl Flood {
         }
         let mark = weight(graph, line);
         self.marks.mark(line, mark)?;
-        self.run(graph, mark)
+        self.run(graph, acquires, mark)
     }
 
     /// Follows the edges of all lines on the stack.
-    fn run(&mut self, graph: &Graph, mark: u32) -> Result<(), NoMemory>
+    fn run(&mut self, graph: &Graph, acquires: &[Vec<u32>], mark: u32) -> Result<(), NoMemory>
+        requires lists { AreAcquires graph.now acquires.now (length graph.now.lines) }
         requires some { 0 < mark }
         requires size { length self.old.marks.highs.items ≡ length graph.now.lines }
         requires locks_noted { length self.old.noted.items ≡ length (locks graph.now) }
@@ -194,13 +216,20 @@ impl Flood {
             → IsFlooding graph.now old (slice_index self.new.marks.highs.items) m []) }
     {
         while let Some(line) = self.marks.stack.pop() {
-            self.follow(graph, line, mark)?;
+            self.follow(graph, acquires, line, mark)?;
         }
         Ok(())
     }
 
     /// Marks the lines that come next after a line.
-    fn follow(&mut self, graph: &Graph, line: u32, mark: u32) -> Result<(), NoMemory>
+    fn follow(
+        &mut self,
+        graph: &Graph,
+        acquires: &[Vec<u32>],
+        line: u32,
+        mark: u32,
+    ) -> Result<(), NoMemory>
+        requires lists { AreAcquires graph.now acquires.now (length graph.now.lines) }
         requires known { line < length graph.now.lines }
         requires some { 0 < mark }
         requires size { length self.old.marks.highs.items ≡ length graph.now.lines }
@@ -214,13 +243,20 @@ impl Flood {
     {
         self.marks.mark_targets(graph, line, mark)?;
         match freed(graph, line) {
-            Some(lock) => self.note(graph, lock, mark),
+            Some(lock) => self.note(graph, acquires, lock, mark),
             None => Ok(()),
         }
     }
 
     /// Marks the acquires of a reservation, once.
-    fn note(&mut self, graph: &Graph, lock: u32, mark: u32) -> Result<(), NoMemory>
+    fn note(
+        &mut self,
+        graph: &Graph,
+        acquires: &[Vec<u32>],
+        lock: u32,
+        mark: u32,
+    ) -> Result<(), NoMemory>
+        requires lists { AreAcquires graph.now acquires.now (length graph.now.lines) }
         requires known { lock < length (locks graph.now) }
         requires some { 0 < mark }
         requires size { length self.old.marks.highs.items ≡ length graph.now.lines }
@@ -233,7 +269,7 @@ impl Flood {
         ensures acquires { OnOk result (AreAcquiresMarked graph.now self.new.marks.highs.items self.new.noted.items) }
     {
         if !self.noted[lock as usize] {
-            self.marks.mark_acquires(graph, lock, mark)?;
+            self.marks.mark_acquires(graph, acquires, lock, mark)?;
             self.noted[lock as usize] = true;
         }
         Ok(())

@@ -62,7 +62,7 @@ fn keep_block(
             acquires.as_slice(),
             line,
             inside.of(graph, line),
-        );
+        )?;
     }
     Ok(())
 }

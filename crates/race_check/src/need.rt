@@ -8,7 +8,7 @@ ghost use Rattle.race_check.specs.Sweep.{IsTally, IsTallyOf, IsTallyFor, IsFirst
 use crate::high_numbers::high_numbers;
 use graph_meaning::laws::{edges_between_lines, needs_are_one};
 use graph_model::graph::Graph;
-use graph_terms::limits::MAX_LINES;
+use graph_terms::limits::MAX_LINES_OF_THREE;
 use index_spaces::NoMemory;
 use index_spaces::room::filled;
 use std::alloc::Global;
@@ -47,7 +47,7 @@ fn tally_of(alloc: Global, graph: &Graph) -> Result<Vec<u32>, NoMemory>
 
 /// How many of the numbers are 0, 1 and so on, up to one more than how many there are.
 fn tally(alloc: Global, highs: &[u32]) -> Result<Vec<u32>, NoMemory>
-    requires short { length highs.now ≤ MAX_LINES }
+    requires short { length highs.now ≤ MAX_LINES_OF_THREE }
     requires small { (i : ℕ) → i < length highs.now → slice_index highs.now i ≤ length highs.now + 1 }
     ensures size { IfOk result (λ t. length t.items ≡ length highs.now + 2) }
     ensures tallied { IfOk result (λ t. IsTally t.items highs.now (length highs.now + 1) (length highs.now)) }
@@ -61,7 +61,7 @@ fn tally(alloc: Global, highs: &[u32]) -> Result<Vec<u32>, NoMemory>
 
 /// The most lines that are open at once, by the tally of their high numbers.
 fn most_open(tally: &[u32], lines: u32) -> u32
-    requires short { lines ≤ MAX_LINES }
+    requires short { lines ≤ MAX_LINES_OF_THREE }
     requires size { length tally.now ≡ lines + 2 }
     requires tallied { IsTallyFor lines tally.now }
     ensures most { result ≡ most_open tally.now lines }
@@ -80,7 +80,7 @@ fn most_open(tally: &[u32], lines: u32) -> u32
 
 /// The first line at which, with itself, so many are open.
 fn first_open(tally: &[u32], lines: u32, need: u32) -> Option<u32>
-    requires short { lines ≤ MAX_LINES }
+    requires short { lines ≤ MAX_LINES_OF_THREE }
     requires size { length tally.now ≡ lines + 2 }
     requires tallied { IsTallyFor lines tally.now }
     ensures { MatchOption result ((j : ℕ) → j < lines → need ≡ 1 + open_after tally.now j → ⊥) (IsFirstOpen tally.now lines need) }

@@ -1,21 +1,47 @@
 //! The reservations of acquires and releases.
 
-ghost use Rattle.std.specs.Prelude.{◌≡◌, ℕ, ◌<◌, length, MatchOption};
-ghost use Rattle.graph_terms.specs.Graph.{locks, line_passes, is_acquire_of};
+ghost use Rattle.std.specs.Prelude.{◌≡◌, ℕ, ◌+◌, ◌<◌, length, OnOk, IfOk, MatchOption};
+ghost use Rattle.graph_terms.specs.Graph.{locks};
 ghost use Rattle.graph_terms.specs.Reservations.{Acquires, Releases};
+ghost use Rattle.race_check.specs.High.{AreAcquires};
 
 use graph_model::graph::Graph;
-use graph_terms::verb::Verb;
+use index_spaces::NoMemory;
+use index_spaces::room::push;
 use section_sweeps::reservations::{acquired, released};
+use std::alloc::Global;
 
-/// Whether a line acquires this reservation.
-pub(crate) fn acquires(graph: &Graph, line: u32, wanted: u32) -> bool
-    requires { line < length graph.now.lines }
-    ensures { result ≡ line_passes (is_acquire_of wanted) graph.now line }
+/// For each reservation the lines that acquire it.
+pub(crate) fn acquires_of_all(alloc: Global, graph: &Graph) -> Result<Vec<Vec<u32>>, NoMemory>
+    ensures { IfOk result (λ v. AreAcquires graph.now v.items (length graph.now.lines)) }
 {
-    match &graph.line(line).verb {
-        Verb::Acquire { lock, .. } => *lock == wanted,
-        _ => false,
+    let mut lists = empty_lists(alloc, graph)?;
+    for line in 0..graph.lines() {
+        list_acquire(&mut lists, graph, line)?;
+    }
+    Ok(lists)
+}
+
+/// A list without lines for each reservation.
+fn empty_lists(alloc: Global, graph: &Graph) -> Result<Vec<Vec<u32>>, NoMemory>
+    ensures { IfOk result (λ v. AreAcquires graph.now v.items 0) }
+{
+    let mut lists = Vec::new(alloc);
+    for _lock in 0..graph.locks() {
+        push(&mut lists, Vec::new(alloc))?;
+    }
+    Ok(lists)
+}
+
+/// Lists a line with those that acquire its reservation, where it is an acquire.
+fn list_acquire(lists: &mut Vec<Vec<u32>>, graph: &Graph, line: u32) -> Result<(), NoMemory>
+    requires line { line < length graph.now.lines }
+    requires lists { AreAcquires graph.now lists.old.items line }
+    ensures { OnOk result (AreAcquires graph.now lists.new.items (line + 1)) }
+{
+    match acquired(graph, line) {
+        Some(lock) => push(&mut lists[lock as usize], line),
+        None => Ok(()),
     }
 }
 

@@ -13,9 +13,9 @@ use Rattle.graph_terms.specs.Access.{accesses, verb_accesses, in_format}
 use Rattle.basics.proofs.ListFacts.{contains_none, map_contains}
 use Rattle.graph_meaning.proofs.Public.{accesses_are_few}
 
--- a line has at most three accesses
-pub few_accesses : (g : GraphValue) (i : ℕ) → length (accesses g i) ≤ 3
-few_accesses g i = accesses_are_few g i
+-- a line has at most eight accesses
+pub few_accesses : (g : GraphValue) (i : ℕ) → length (accesses g i) ≤ 8
+few_accesses g i = let few : length (accesses g i) ≤ 3 = accesses_are_few g i in omega arith
 
 -- an access that was read is one of the line
 pub access_read : (xs : List Access) (k : ℕ) (a : Access) → slice_get xs k ≡ Some a → Contains xs a

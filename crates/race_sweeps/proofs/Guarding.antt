@@ -1,67 +1,64 @@
 -- The guards of classes, one access more at a time.
-use Rattle.std.proofs.Common.{◌≡◌, ℕ, ◌+◌, ◌*◌, ◌/◌, ◌<◌, ◌≤◌, true, false, min, inl, inr, List, length, sym, ◌∙◌, ap, subst, arith}
-use Rattle.std.specs.Prelude.{Option, Some, None, slice_set, slice_index}
+use Rattle.std.proofs.Common.{◌≡◌, ℕ, ◌+◌, ◌<◌, ◌≤◌, true, false, min, inl, inr, List, length, sym, ◌∙◌, ap, subst, arith}
+use Rattle.std.specs.Prelude.{Option, Some, None, slice_get, slice_set, slice_index}
 use Rattle.std.proofs.lemmas.Bool.{cases_lt, cases_eq, cases_Bool, and_parts, cond-true}
-use Rattle.std.proofs.lemmas.Option.{none-some, same_Some}
-use Rattle.std.proofs.lemmas.List.{get_or_past, get_or-set_same, get_or-set_other}
+use Rattle.std.proofs.lemmas.Option.{none-some, same_Some, slice_get_within}
+use Rattle.std.proofs.lemmas.List.{get_or-set_same, get_or-set_other}
 use Rattle.graph_terms.specs.declared.verb.Access.{Access}
 use Rattle.graph_terms.specs.Graph.{GraphValue, line_passes, is_shared}
 use Rattle.graph_terms.specs.Reservations.{both_shared}
 use Rattle.race_sweeps.specs.declared.line_sections.Held.{Held}
-use Rattle.race_sweeps.specs.Classes.{class_at}
+use Rattle.race_sweeps.specs.Classes.{kept_at, place_at}
 use Rattle.race_sweeps.specs.Guards.{AreGuards, AreOpened, IsBeforeStart, slot_of}
 use Rattle.race_sweeps.specs.Held.{IsHeld, acquire_in}
 use Rattle.race_sweeps.proofs.Sections.{kept_apart}
 
-module _ (g : GraphValue) (h : Held) (lines : List ℕ) (classes guards : List (Option ℕ)) (openings : List ℕ) (m : ℕ) (opened : AreOpened g h lines classes guards openings m) where
+module _ (g : GraphValue) (h : Held) (lines classes sites : List ℕ) (guards : List (Option ℕ)) (openings : List ℕ) (m : ℕ) (opened : AreOpened g h lines classes sites guards openings m) where
   -- an access without a class, or of a class without a guard
-  pub opened_unguarded : ((d l : ℕ) → class_at classes m ≡ Some d → class_at guards d ≡ Some l → ⊥) → AreOpened g h lines classes guards openings (m + 1)
+  pub opened_unguarded : ((d l : ℕ) → slice_get classes m ≡ Some d → kept_at guards d ≡ Some l → ⊥) → AreOpened g h lines classes sites guards openings (m + 1)
   opened_unguarded none r d l low class lock = elim (cases_lt r m) [
     | inl before ↦ opened r d l before class lock
-    | inr up ↦ (let same : r ≡ m = omega arith in absurd (none d l (subst (λ z. class_at classes z ≡ Some d) same class) lock))
+    | inr up ↦ (let same : r ≡ m = omega arith in absurd (none d l (subst (λ z. slice_get classes z ≡ Some d) same class) lock))
   ]
 
-  module _ (c : ℕ) (own : class_at classes m ≡ Some c) where
+  module _ (c : ℕ) (own : slice_get classes m ≡ Some c) where
     -- a class that has a member outside of its guard loses it
-    pub opened_lost : c < length guards → AreOpened g h lines classes (slice_set guards c None) openings (m + 1)
+    pub opened_lost : c < length guards → AreOpened g h lines classes sites (slice_set guards c None) openings (m + 1)
     opened_lost small r d l low class lock = elim (cases_eq d c) [
-      | inl same ↦ absurd (none-some l (sym (get_or-set_same guards c None None small) ∙ subst (λ z. class_at (slice_set guards c None) z ≡ Some l) same lock))
+      | inl same ↦ absurd (none-some l (sym (get_or-set_same guards c None None small) ∙ subst (λ z. kept_at (slice_set guards c None) z ≡ Some l) same lock))
       | inr apart ↦ elim (cases_lt r m) [
         | inl before ↦ opened r d l before class (sym (get_or-set_other guards c d None None apart) ∙ lock)
-        | inr up ↦ (let same : r ≡ m = omega arith in absurd (apart (same_Some d c (sym class ∙ subst (λ z. class_at classes z ≡ Some c) (sym same) own))))
+        | inr up ↦ (let same : r ≡ m = omega arith in absurd (apart (same_Some d c (sym class ∙ subst (λ z. slice_get classes z ≡ Some c) (sym same) own))))
       ]
     ]
 
     -- a section is opened at the place of a member
-    pub opened_more : (l q p opening : ℕ) → class_at guards c ≡ Some l → acquire_in h l (slice_index lines (m / 3)) ≡ Some q → p ≡ slot_of g l q → p < length openings → opening ≡ slice_index openings p → AreOpened g h lines classes guards (slice_set openings p (min opening (m / 3))) (m + 1)
+    pub opened_more : (l q p opening : ℕ) → kept_at guards c ≡ Some l → acquire_in h l (slice_index lines (place_at sites m)) ≡ Some q → p ≡ slot_of g l q → p < length openings → opening ≡ slice_index openings p → AreOpened g h lines classes sites guards (slice_set openings p (min opening (place_at sites m))) (m + 1)
     opened_more l q p opening guard at slot small is r d k low class lock = elim (cases_lt r m) [
-      | inl before ↦ (let old = opened r d k before class lock in (old.0, old.1, lower (slot_of g k old.0) (r / 3) old.2))
+      | inl before ↦ (let old = opened r d k before class lock in (old.0, old.1, lower (slot_of g k old.0) (place_at sites r) old.2))
       | inr up ↦ (
           let same : r ≡ m = omega arith in
-          let one : d ≡ c = same_Some d c (sym class ∙ subst (λ z. class_at classes z ≡ Some c) (sym same) own) in
-          let other : k ≡ l = same_Some k l (sym lock ∙ subst (λ z. class_at guards z ≡ Some l) (sym one) guard) in (
+          let here : place_at sites r ≡ place_at sites m = ap (place_at sites) same in
+          let one : d ≡ c = same_Some d c (sym class ∙ subst (λ z. slice_get classes z ≡ Some c) (sym same) own) in
+          let other : k ≡ l = same_Some k l (sym lock ∙ subst (λ z. kept_at guards z ≡ Some l) (sym one) guard) in (
             q,
-            subst (λ z. acquire_in h k (slice_index lines (z / 3)) ≡ Some q) (sym same) (subst (λ z. acquire_in h z (slice_index lines (m / 3)) ≡ Some q) (sym other) at),
-            subst (λ z. slice_index (slice_set openings p (min opening (m / 3))) (slot_of g z q) ≤ r / 3) (sym other) (subst (λ z. slice_index (slice_set openings p (min opening (m / 3))) z ≤ r / 3) slot
-                (let e : slice_index (slice_set openings p (min opening (m / 3))) p ≡ min opening (m / 3) = get_or-set_same openings p (min opening (m / 3)) 0 small in omega arith)),
+            subst (λ z. acquire_in h k (slice_index lines (place_at sites z)) ≡ Some q) (sym same) (subst (λ z. acquire_in h z (slice_index lines (place_at sites m)) ≡ Some q) (sym other) at),
+            subst (λ z. slice_index (slice_set openings p (min opening (place_at sites m))) (slot_of g z q) ≤ place_at sites r) (sym other) (subst (λ z. slice_index (slice_set openings p (min opening (place_at sites m))) z ≤ place_at sites r) slot
+                (let e : slice_index (slice_set openings p (min opening (place_at sites m))) p ≡ min opening (place_at sites m) = get_or-set_same openings p (min opening (place_at sites m)) 0 small in omega arith)),
           ))
     ]
       where
-        lower : (o x : ℕ) → slice_index openings o ≤ x → slice_index (slice_set openings p (min opening (m / 3))) o ≤ x
+        lower : (o x : ℕ) → slice_index openings o ≤ x → slice_index (slice_set openings p (min opening (place_at sites m))) o ≤ x
         lower o x low = elim (cases_eq o p) [
           | inl same ↦ (
-              let e : slice_index (slice_set openings p (min opening (m / 3))) o ≡ min opening (m / 3) = ap (slice_index (slice_set openings p (min opening (m / 3)))) same ∙ get_or-set_same openings p (min opening (m / 3)) 0 small in
+              let e : slice_index (slice_set openings p (min opening (place_at sites m))) o ≡ min opening (place_at sites m) = ap (slice_index (slice_set openings p (min opening (place_at sites m)))) same ∙ get_or-set_same openings p (min opening (place_at sites m)) 0 small in
               let f : slice_index openings o ≡ opening = ap (slice_index openings) same ∙ sym is in omega arith)
-          | inr apart ↦ (let e : slice_index (slice_set openings p (min opening (m / 3))) o ≡ slice_index openings o = get_or-set_other openings p o (min opening (m / 3)) 0 apart in omega arith)
+          | inr apart ↦ (let e : slice_index (slice_set openings p (min opening (place_at sites m))) o ≡ slice_index openings o = get_or-set_other openings p o (min opening (place_at sites m)) 0 apart in omega arith)
         ]
 
--- an access that has a class is one of the list
-pub class_within : (classes : List (Option ℕ)) (r c : ℕ) → class_at classes r ≡ Some c → r < length classes
-class_within classes r c e = elim (cases_lt r (length classes)) [ inl low ↦ low | inr past ↦ absurd (none-some c (sym (get_or_past classes r None past) ∙ e)) ]
-
 -- the starts before a number are found
-abbrev pub AreStarts : GraphValue → Held → List ℕ → List (Option ℕ) → List (Option ℕ) → List ℕ → List ℕ → ℕ → Type 0
-AreStarts g h lines classes guards openings starts m = (r x : ℕ) → r < m → x < slice_index starts r → IsBeforeStart g h lines classes guards openings r x
+abbrev pub AreStarts : GraphValue → Held → List ℕ → List ℕ → List ℕ → List (Option ℕ) → List ℕ → List ℕ → ℕ → Type 0
+AreStarts g h lines classes sites guards openings starts m = (r x : ℕ) → r < m → x < slice_index starts r → IsBeforeStart g h lines classes sites guards openings r x
 
 -- acquires that are both shared have one slot
 shared_slots : (g : GraphValue) (l q k : ℕ) → both_shared g q k ≡ true → slot_of g l q ≡ slot_of g l k
@@ -73,22 +70,20 @@ slots_apart : (g : GraphValue) (l q k : ℕ) → (slot_of g l q ≡ slot_of g l 
 slots_apart g l q k apart = elim (cases_Bool (both_shared g q k)) [ inl both ↦ absurd (apart (shared_slots g l q k both)) | inr alone ↦ alone ]
 
 -- two members of classes of one guard, of which one lies before the start of the other, lie apart
-pub guards_by : (g : GraphValue) (h : Held) → IsHeld g h → (lines : List ℕ) (keys : List Access) (classes guards : List (Option ℕ)) (openings starts : List ℕ) → length guards ≡ length keys → length starts ≡ length classes → ((r c : ℕ) → class_at classes r ≡ Some c → r < length classes) →
-    AreOpened g h lines classes guards openings (length classes) → AreStarts g h lines classes guards openings starts (length classes) → AreGuards g lines keys classes guards starts
-guards_by g h is lines keys classes guards openings starts size numbers within opened started = record {
+pub guards_by : (g : GraphValue) (h : Held) → IsHeld g h → (lines : List ℕ) (keys : List Access) (classes sites : List ℕ) (guards : List (Option ℕ)) (openings starts : List ℕ) → length guards ≡ length keys → length starts ≡ length classes →
+    AreOpened g h lines classes sites guards openings (length classes) → AreStarts g h lines classes sites guards openings starts (length classes) → AreGuards g lines keys classes sites guards starts
+guards_by g h is lines keys classes sites guards openings starts size numbers opened started = record {
   size = size;
   numbers = numbers;
-  apart = λ x j u k c d few small one two both before. (
-      let s = started (3 * u + k) x (within (3 * u + k) c two) before in
-      let class : s.class ≡ c = same_Some s.class c (sym s.class_is ∙ two) in
-      let lock : s.lock ≡ both.lock = same_Some s.lock both.lock (sym s.lock_is ∙ (ap (class_at guards) class ∙ both.guards_one)) in
-      let o = opened (3 * x + j) d both.lock (within (3 * x + j) d one) one both.guards_other in
-      let at : (3 * x + j) / 3 ≡ x = omega arith in
-      let to : (3 * u + k) / 3 ≡ u = omega arith in
-      let low : slice_index openings (slot_of g both.lock o.0) ≤ (3 * x + j) / 3 = o.2 in
-      let up : x < slice_index openings (slot_of g both.lock s.acquire) = subst (λ z. x < slice_index openings (slot_of g z s.acquire)) lock s.before in
-      let differ : slot_of g both.lock o.0 ≡ slot_of g both.lock s.acquire → ⊥ = (λ same. (let e : slice_index openings (slot_of g both.lock o.0) ≡ slice_index openings (slot_of g both.lock s.acquire) = ap (slice_index openings) same in absurd (omega arith))) in
-      kept_apart g h is both.lock (slice_index lines x) (slice_index lines u) o.0 s.acquire (subst (λ z. acquire_in h both.lock (slice_index lines z) ≡ Some o.0) at o.1)
-      (subst (λ z. acquire_in h both.lock (slice_index lines z) ≡ Some s.acquire) to (subst (λ z. acquire_in h z (slice_index lines ((3 * u + k) / 3)) ≡ Some s.acquire) lock s.acquire_is))
-      (λ same. differ (ap (slot_of g both.lock) same)) (slots_apart g both.lock o.0 s.acquire differ));
+  apart = λ r s c d one two both before. (
+      let x = place_at sites r in
+      let u = place_at sites s in
+      let b = started s x (slice_get_within classes s c two) before in
+      let class : b.class ≡ c = same_Some b.class c (sym b.class_is ∙ two) in
+      let lock : b.lock ≡ both.lock = same_Some b.lock both.lock (sym b.lock_is ∙ (ap (kept_at guards) class ∙ both.guards_one)) in
+      let o = opened r d both.lock (slice_get_within classes r d one) one both.guards_other in
+      let low : slice_index openings (slot_of g both.lock o.0) ≤ x = o.2 in
+      let up : x < slice_index openings (slot_of g both.lock b.acquire) = subst (λ z. x < slice_index openings (slot_of g z b.acquire)) lock b.before in
+      let differ : slot_of g both.lock o.0 ≡ slot_of g both.lock b.acquire → ⊥ = (λ same. (let e : slice_index openings (slot_of g both.lock o.0) ≡ slice_index openings (slot_of g both.lock b.acquire) = ap (slice_index openings) same in absurd (omega arith))) in
+      kept_apart g h is both.lock (slice_index lines x) (slice_index lines u) o.0 b.acquire o.1 (subst (λ z. acquire_in h z (slice_index lines u) ≡ Some b.acquire) lock b.acquire_is) (λ same. differ (ap (slot_of g both.lock) same)) (slots_apart g both.lock o.0 b.acquire differ));
 }

@@ -6,6 +6,7 @@ pub mod Sections
 pub mod Hardening
 pub mod Placing
 pub mod Reaching
+pub mod Blocks
 pub mod Conflicts
 pub mod Nearness
 pub mod Listed

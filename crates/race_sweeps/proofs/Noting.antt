@@ -6,6 +6,7 @@ use Rattle.std.proofs.lemmas.List.{get_or-set_same, get_or-set_other}
 use Rattle.graph_terms.specs.Graph.{GraphValue}
 use Rattle.race_sweeps.specs.declared.marks.Mark.{Mark}
 use Rattle.race_sweeps.specs.declared.lookups.Table.{Table}
+use Rattle.race_sweeps.specs.Classes.{place_at}
 use Rattle.race_sweeps.specs.Scan.{AreSettledWith, IsWalked, AreAnsweredAt}
 use Rattle.race_sweeps.specs.Settled.{AreStillNoted, IsSettledOrNoted, is_noted}
 
@@ -17,7 +18,7 @@ pub with_still : (g : GraphValue) (lines : List ℕ) (old new : List Bool) (firs
 with_still g lines old new first x word still h b low there set up = settled_still g old new _ _ still (h b low there set up)
 
 pub walked_still : (g : GraphValue) (t : Table) (old new : List Bool) (first limit : ℕ) (m : Mark) → AreStillNoted old new → IsWalked g t old first limit m → IsWalked g t new first limit m
-walked_still g t old new first limit m still h x k few low class above = with_still g t.lines.items old new first x m.word still (h x k few low class above)
+walked_still g t old new first limit m still h r low class above = with_still g t.lines.items old new first (place_at t.sites.items r) m.word still (h r low class above)
 
 pub answered_still : (g : GraphValue) (lines : List ℕ) (old new : List Bool) (u : ℕ) → AreStillNoted old new → AreAnsweredAt g lines old u → AreAnsweredAt g lines new u
 answered_still g lines old new u still h x a b low ha hb c = elim (h x a b low ha hb c) [ inl one ↦ inl (settled_still g old new _ _ still one) | inr rest ↦ inr rest ]

@@ -1,15 +1,16 @@
 -- Walks over the members of a class.
-use Rattle.std.proofs.Common.{◌≡◌, ℕ, ◌+◌, ◌*◌, ◌/◌, ◌<◌, ◌≤◌, ◌^◌, Bool, true, inl, inr, List, length, sym, ◌∙◌, ap, subst, arith}
-use Rattle.std.specs.Prelude.{Option, Some, None, slice_index}
+use Rattle.std.proofs.Common.{◌≡◌, ℕ, ◌+◌, ◌<◌, ◌≤◌, ◌^◌, Bool, true, inl, inr, List, length, sym, ◌∙◌, ap, subst, arith}
+use Rattle.std.specs.Prelude.{Option, Some, None, slice_get, slice_index}
 use Rattle.std.specs.Int.{bit_not}
 use lib.Bits.{bit_and}
 use mir.Syntax.{w64}
 use Rattle.std.proofs.lemmas.Bool.{cases_lt, cases_eq, cases_Bool, and_from, not_from_false, true≢false, ne_eqb}
+use Rattle.std.proofs.lemmas.Option.{slice_get_within}
 use Rattle.std.proofs.lemmas.Nat.Bits.{bit_at-zero}
 use Rattle.graph_terms.specs.Graph.{GraphValue}
 use Rattle.race_sweeps.specs.declared.marks.Mark.{Mark}
 use Rattle.race_sweeps.specs.declared.lookups.Table.{Table}
-use Rattle.race_sweeps.specs.Classes.{class_at}
+use Rattle.race_sweeps.specs.Classes.{AreNumbered, place_at}
 use Rattle.race_sweeps.specs.Marks.{bit_in}
 use Rattle.race_sweeps.specs.Members.{IsLastBelow}
 use Rattle.race_sweeps.specs.Reach.{IsReach}
@@ -24,7 +25,7 @@ pub record IsWalking (g : GraphValue) (t : Table) (racing : List Bool) (first : 
   pub limit : ℕ
   pub within : limit ≤ all
   pub found_is : IsLastBelow t.classes.items ask.class limit found
-  pub done : (x k : ℕ) → k < 3 → limit ≤ 3 * x + k → 3 * x + k < all → class_at t.classes.items (3 * x + k) ≡ Some ask.class → ask.floor ≤ x → AreSettledWith g t.lines.items racing first x ask.word
+  pub done : (r : ℕ) → limit ≤ r → r < all → slice_get t.classes.items r ≡ Some ask.class → ask.floor ≤ place_at t.sites.items r → AreSettledWith g t.lines.items racing first (place_at t.sites.items r) ask.word
 
 -- how far a walk may go on
 abbrev pub rest_of : Option ℕ → ℕ
@@ -32,49 +33,55 @@ rest_of None = 0
 rest_of (Some m) = m + 1
 
 pub walk_begins : (g : GraphValue) (t : Table) (racing : List Bool) (first : ℕ) (ask : Mark) (all : ℕ) (found : Option ℕ) → IsLastBelow t.classes.items ask.class all found → IsWalking g t racing first ask all found
-walk_begins g t racing first ask all found is = record { limit = all; within = omega arith; found_is = is; done = λ x k few low high class above. absurd (omega arith) }
+walk_begins g t racing first ask all found is = record { limit = all; within = omega arith; found_is = is; done = λ r low high class above. absurd (omega arith) }
 
 module _ (g : GraphValue) (t : Table) (racing : List Bool) (first : ℕ) (ask : Mark) (all : ℕ) (found : Option ℕ) (w : IsWalking g t racing first ask all found) where
   -- no member is left
   pub walk_ends : found ≡ None → IsWalked g t racing first all ask
-  walk_ends none x k few low class above = elim (cases_lt (3 * x + k) w.limit) [
-    | inl l ↦ absurd (last_none t.classes.items ask.class w.limit found w.found_is none (3 * x + k) l class)
-    | inr up ↦ w.done x k few up low class above
+  walk_ends none r low class above = elim (cases_lt r w.limit) [
+    | inl l ↦ absurd (last_none t.classes.items ask.class w.limit found w.found_is none r l class)
+    | inr up ↦ w.done r up low class above
   ]
 
   module _ (m : ℕ) (some : found ≡ Some m) where
-    is : (m < w.limit) × (class_at t.classes.items m ≡ Some ask.class) × ((q : ℕ) → m < q → q < w.limit → class_at t.classes.items q ≡ Some ask.class → ⊥)
+    is : (m < w.limit) × (slice_get t.classes.items m ≡ Some ask.class) × ((q : ℕ) → m < q → q < w.limit → slice_get t.classes.items q ≡ Some ask.class → ⊥)
     is = last_found t.classes.items ask.class w.limit m found w.found_is some
 
     pub found_low : m < all
     found_low = let a : m < w.limit = is.0 in let b : w.limit ≤ all = w.within in omega arith
 
-    pub found_class : class_at t.classes.items m ≡ Some ask.class
+    pub found_class : slice_get t.classes.items m ≡ Some ask.class
     found_class = is.1
 
     -- the next member lies below the floor
-    pub walk_stops : m / 3 < ask.floor → IsWalked g t racing first all ask
-    walk_stops low x k few before class above = elim (cases_lt (3 * x + k) w.limit) [
-      | inl l ↦ absurd (is.2 (3 * x + k) (omega arith) l class)
-      | inr up ↦ w.done x k few up before class above
+    pub walk_stops : AreNumbered t.classes.items t.sites.items → place_at t.sites.items m < ask.floor → IsWalked g t racing first all ask
+    walk_stops numbered low r before class above = elim (cases_lt r w.limit) [
+      | inr up ↦ w.done r up before class above
+      | inl l ↦ elim (cases_lt m r) [
+        | inl behind ↦ absurd (is.2 r behind l class)
+        | inr up ↦ (
+            let last : m < length t.classes.items = slice_get_within t.classes.items m ask.class is.1 in
+            let size : length t.sites.items ≡ length t.classes.items = numbered.size in
+            let le : place_at t.sites.items r ≤ place_at t.sites.items m = numbered.ascending r m up (omega arith) in absurd (omega arith))
+      ]
     ]
 
     -- or is settled
-    pub walk_more : (new : List Bool) → AreStillNoted racing new → AreSettledWith g t.lines.items new first (m / 3) ask.word → (next : Option ℕ) → IsLastBelow t.classes.items ask.class m next → IsWalking g t new first ask all next
+    pub walk_more : (new : List Bool) → AreStillNoted racing new → AreSettledWith g t.lines.items new first (place_at t.sites.items m) ask.word → (next : Option ℕ) → IsLastBelow t.classes.items ask.class m next → IsWalking g t new first ask all next
     walk_more new still settled next before = record {
       limit = m;
       within = (let a : m < all = found_low in omega arith);
       found_is = before;
-      done = λ x k few low high class above. elim (cases_lt (3 * x + k) w.limit) [
-        | inr up ↦ with_still g t.lines.items racing new first x ask.word still (w.done x k few up high class above)
-        | inl l ↦ elim (cases_eq (3 * x + k) m) [
-          | inl same ↦ subst (λ z. AreSettledWith g t.lines.items new first z ask.word) (let e : m / 3 ≡ x = omega arith in e) settled
-          | inr apart ↦ absurd (is.2 (3 * x + k) (omega (arith, apart)) l class)
+      done = λ r low high class above. elim (cases_lt r w.limit) [
+        | inr up ↦ with_still g t.lines.items racing new first (place_at t.sites.items r) ask.word still (w.done r up high class above)
+        | inl l ↦ elim (cases_eq r m) [
+          | inl same ↦ subst (λ z. AreSettledWith g t.lines.items new first (place_at t.sites.items z) ask.word) (sym same) settled
+          | inr apart ↦ absurd (is.2 r (omega (arith, apart)) l class)
         ]
       ];
     }
 
-pub rest_less : (classes : List (Option ℕ)) (c m : ℕ) (next : Option ℕ) → IsLastBelow classes c m next → rest_of next < m + 1
+pub rest_less : (classes : List ℕ) (c m : ℕ) (next : Option ℕ) → IsLastBelow classes c m next → rest_of next < m + 1
 rest_less classes c m None h = omega arith
 rest_less classes c m (Some p) h = let l : p < m = h.0 in omega arith
 

@@ -1,4 +1,4 @@
--- The classes of accesses: one for each column, space and mode that some line uses.
+-- The classes of accesses: one for each column, space and mode that some line uses. The accesses of all lines are numbered, place by place.
 use Rattle.std.specs.Prelude.{◌≡◌, ℕ, ◌+◌, ◌*◌, ◌<◌, ◌≤◌, ◌⊎◌, List, length, Option, Some, None, Vec, Contains, slice_get, slice_index}
 use Rattle.std.specs.Global.{Global}
 use Rattle.std.specs.List.{slice_index_or}
@@ -6,28 +6,61 @@ use Rattle.graph_terms.specs.declared.verb.Access.{Access}
 use Rattle.graph_terms.specs.Graph.{GraphValue}
 use Rattle.graph_terms.specs.Access.{accesses, AccessesConflict}
 
--- the class of an access, by the number 3 p + k of access k of the line at place p
-abbrev pub class_at : List (Option ℕ) → ℕ → Option ℕ
-class_at classes m = slice_index_or classes m None
+-- what is kept for a number, where something is
+abbrev pub kept_at : List (Option ℕ) → ℕ → Option ℕ
+kept_at items m = slice_index_or items m None
 
--- the access that a class is of
-abbrev pub key_of : List Access → Option ℕ → Option Access
-key_of keys None = None
-key_of keys (Some c) = slice_get keys c
+-- the place of the line whose access has this number
+abbrev pub place_at : List ℕ → ℕ → ℕ
+place_at sites r = slice_index sites r
 
--- each access has its class, and nothing else has one
-pub record AreClasses (g : GraphValue) (lines : List ℕ) (keys : List Access) (classes : List (Option ℕ)) : Type 0 where
-  pub size : length classes ≡ 3 * length lines
-  pub each : (p k : ℕ) → p < length lines → k < 3 → key_of keys (class_at classes (3 * p + k)) ≡ slice_get (accesses g (slice_index lines p)) k
-  pub known : (m c : ℕ) → class_at classes m ≡ Some c → c < length keys
-  pub few : length keys ≤ 3 * length lines
+-- the accesses of the lines before place p have the numbers below m
+pub record IsBegin (sites : List ℕ) (p m : ℕ) : Type 0 where
+  pub within : m ≤ length sites
+  pub before : (r : ℕ) → r < m → place_at sites r < p
+  pub behind : (r : ℕ) → m ≤ r → r < length sites → p ≤ place_at sites r
 
--- the same of the accesses below a number
-pub record AreClassesTo (g : GraphValue) (lines : List ℕ) (keys : List Access) (classes : List (Option ℕ)) (m : ℕ) : Type 0 where
-  pub size : length classes ≡ m
-  pub each : (p k : ℕ) → p < length lines → k < 3 → 3 * p + k < m → key_of keys (class_at classes (3 * p + k)) ≡ slice_get (accesses g (slice_index lines p)) k
-  pub known : (r c : ℕ) → class_at classes r ≡ Some c → c < length keys
-  pub few : length keys ≤ m
+-- each access that has a number has a class and a place, and accesses are numbered place by place
+pub record AreNumbered (classes sites : List ℕ) : Type 0 where
+  pub size : length sites ≡ length classes
+  pub ascending : (r s : ℕ) → r ≤ s → s < length sites → place_at sites r ≤ place_at sites s
+
+-- an access of the line at place p has a number, by its class
+pub record HasNumber (keys : List Access) (classes sites : List ℕ) (p : ℕ) (a : Access) : Type 0 where
+  pub number : ℕ
+  pub class : ℕ
+  pub class_is : slice_get classes number ≡ Some class
+  pub key_is : slice_get keys class ≡ Some a
+  pub place_is : place_at sites number ≡ p
+
+-- a number is that of an access of the line at its place
+abbrev pub AreOwn : GraphValue → List ℕ → List Access → List ℕ → List ℕ → Type 0
+AreOwn g lines keys classes sites = (r c : ℕ) (a : Access) → slice_get classes r ≡ Some c → slice_get keys c ≡ Some a → Contains (accesses g (slice_index lines (place_at sites r))) a
+
+-- each access has its number and its class, and nothing else has one
+pub record AreClasses (g : GraphValue) (lines : List ℕ) (keys : List Access) (classes sites begins : List ℕ) : Type 0 where
+  pub numbered : AreNumbered classes sites
+  pub within : (r : ℕ) → r < length sites → place_at sites r < length lines
+  pub begin_count : length begins ≡ length lines + 1
+  pub begin : (p : ℕ) → p ≤ length lines → IsBegin sites p (slice_index begins p)
+  pub own : AreOwn g lines keys classes sites
+  pub each : (p : ℕ) (a : Access) → p < length lines → Contains (accesses g (slice_index lines p)) a → HasNumber keys classes sites p a
+  pub known : (r c : ℕ) → slice_get classes r ≡ Some c → c < length keys
+  pub few : length keys ≤ length classes
+  pub count : length classes ≤ 8 * length lines
+
+-- the same of the accesses of the lines before place p and the first k of the line there
+pub record AreClassesTo (g : GraphValue) (lines : List ℕ) (keys : List Access) (classes sites begins : List ℕ) (p k : ℕ) : Type 0 where
+  pub numbered : AreNumbered classes sites
+  pub within : (r : ℕ) → r < length sites → place_at sites r < length lines
+  pub low : (r : ℕ) → r < length sites → place_at sites r ≤ p
+  pub begin_count : length begins ≡ p + 1
+  pub begin : (q : ℕ) → q ≤ p → IsBegin sites q (slice_index begins q)
+  pub own : AreOwn g lines keys classes sites
+  pub each : (q m : ℕ) (a : Access) → q < length lines → (q < p) ⊎ ((q ≡ p) × (m < k)) → slice_get (accesses g (slice_index lines q)) m ≡ Some a → HasNumber keys classes sites q a
+  pub known : (r c : ℕ) → slice_get classes r ≡ Some c → c < length keys
+  pub few : length keys ≤ length classes
+  pub count : length classes ≤ 8 * p + k
 
 -- class d is kept beside class c
 abbrev pub IsNear : List (Vec ℕ Global) → ℕ → ℕ → Type 0

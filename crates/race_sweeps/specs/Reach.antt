@@ -1,8 +1,10 @@
 -- Which of 64 lines are reached.
-use Rattle.std.specs.Prelude.{◌≡◌, ℕ, ◌+◌, ◌<◌, ◌≤◌, ◌⊎◌, true, List, length, slice_index}
+use Rattle.std.specs.Prelude.{◌≡◌, ℕ, ◌+◌, ◌/◌, ◌<◌, ◌⊎◌, Bool, true, List, length, slice_index}
 use Rattle.graph_terms.specs.Graph.{GraphValue}
 use Rattle.graph_meaning.specs.Path.{HasPath}
 use Rattle.race_sweeps.specs.Marks.{bit_in}
+use Rattle.race_sweeps.specs.Settled.{is_noted}
+use Rattle.race_sweeps.specs.declared.reach.Reach.{Reach}
 
 -- each bit of a word tells of a path from the line at place x to one of the 64 lines from place `first` on
 abbrev pub AreReached : GraphValue → List ℕ → ℕ → ℕ → ℕ → Type 0
@@ -17,12 +19,12 @@ pub record IsReach (g : GraphValue) (lines : List ℕ) (first : ℕ) (words : Li
   pub size : length words ≡ length lines
   pub reached : (x : ℕ) → AreReached g lines first x (slice_index words x)
 
--- no word outside of the places from `low` up to `high` has a bit
-abbrev pub AreOutside : List ℕ → ℕ → ℕ → Type 0
-AreOutside words low high = (x : ℕ) → (x < low) ⊎ (high ≤ x) → slice_index words x ≡ 0
+-- where a word has a bit, the block of its place is marked
+abbrev pub AreBlocksMarked : List ℕ → List Bool → Type 0
+AreBlocksMarked words blocks = (x : ℕ) → (slice_index words x ≡ 0) ⊎ (is_noted blocks (x / 64) ≡ true)
 
--- and there are so many words
-pub record IsBounded (places : ℕ) (words : List ℕ) (low high : ℕ) : Type 0 where
-  pub size : length words ≡ places
-  pub ends : high ≤ places
-  pub outside : AreOutside words low high
+-- there are words for so many places, and marks for their blocks
+pub record IsBounded (places : ℕ) (r : Reach) : Type 0 where
+  pub size : length r.words.items ≡ places
+  pub blocks : length r.blocks.items ≡ places / 64 + 1
+  pub marked : AreBlocksMarked r.words.items r.blocks.items

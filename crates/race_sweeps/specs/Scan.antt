@@ -1,5 +1,5 @@
 -- The scan for conflicts that no path settles, 64 lines at a time.
-use Rattle.std.specs.Prelude.{◌≡◌, ◌≢◌, ℕ, ◌+◌, ◌*◌, ◌<◌, ◌≤◌, ◌⊎◌, Bool, true, List, length, Some, IsTrue, Contains, slice_get, slice_index}
+use Rattle.std.specs.Prelude.{◌≡◌, ◌≢◌, ℕ, ◌+◌, ◌<◌, ◌≤◌, ◌⊎◌, Bool, true, List, length, Some, IsTrue, Contains, slice_get, slice_index}
 use Rattle.graph_terms.specs.declared.verb.Access.{Access}
 use Rattle.graph_terms.specs.declared.verb.Mode.{Mode}
 use Rattle.graph_terms.specs.declared.verb.Mode.TheVariants.{Read, Write}
@@ -8,7 +8,7 @@ use Rattle.graph_terms.specs.Access.{accesses, is_reduction, AccessesConflict}
 use Rattle.graph_meaning.specs.Rules.{Section, modes_commute}
 use Rattle.race_sweeps.specs.declared.marks.Mark.{Mark}
 use Rattle.race_sweeps.specs.declared.lookups.Table.{Table}
-use Rattle.race_sweeps.specs.Classes.{class_at, IsNear}
+use Rattle.race_sweeps.specs.Classes.{IsNear, place_at}
 use Rattle.race_sweeps.specs.Guards.{AreGuarded}
 use Rattle.race_sweeps.specs.Held.{LieApart}
 use Rattle.race_sweeps.specs.Marks.{bit_in, IsMarked}
@@ -36,10 +36,13 @@ pub record IsHardTo (g : GraphValue) (t : Table) (hard : List ℕ) (limit : ℕ)
 abbrev pub IsAskable : Table → ℕ → ℕ → Type 0
 IsAskable t c d = IsNear t.near.items c d ⊎ ((d ≡ c) × ((a : Access) × (slice_get t.keys.items c ≡ Some a) × (a.mode ≢ Read)))
 
--- the members of class d below number `limit` are asked about each line of a mark, but those that a hard access of the mark's class or of d follows, and those before the mark's floor where both classes are guarded
+-- a member of class d at place x is asked about line b of a mark, or a hard access of the mark's class or of d follows it, or it stands before the mark's floor where both classes are guarded
+abbrev pub IsAnswerable : Table → List ℕ → List Mark → Mark → ℕ → ℕ → ℕ → Type 0
+IsAnswerable t hard asks m d b x = (x < slice_index hard m.class) ⊎ ((x < slice_index hard d) ⊎ ((AreGuarded t.keys.items t.guards.items m.class d × (x < m.floor)) ⊎ IsMarked asks d b x))
+
+-- and this for each member of class d below number `limit` and each line of the mark
 abbrev pub IsAsked : Table → List ℕ → List Mark → ℕ → Mark → ℕ → Type 0
-IsAsked t hard asks limit m d = (x k b : ℕ) → k < 3 → 3 * x + k < limit → class_at t.classes.items (3 * x + k) ≡ Some d → bit_in m.word b ≡ true →
-    (x < slice_index hard m.class) ⊎ ((x < slice_index hard d) ⊎ ((AreGuarded t.keys.items t.guards.items m.class d × (x < m.floor)) ⊎ IsMarked asks d b x))
+IsAsked t hard asks limit m d = (r b : ℕ) → r < limit → slice_get t.classes.items r ≡ Some d → bit_in m.word b ≡ true → IsAnswerable t hard asks m d b (place_at t.sites.items r)
 
 -- and this for each class that a mark asks about
 abbrev pub IsMarkAsked : Table → List ℕ → List Mark → ℕ → Mark → Type 0
@@ -51,7 +54,7 @@ AreSettledWith g lines racing first x word = (b : ℕ) → b < 64 → first + b 
 
 -- the members of a mark's class from its floor on, below number `limit`, are settled with the mark's lines, or noted as they are
 abbrev pub IsWalked : GraphValue → Table → List Bool → ℕ → ℕ → Mark → Type 0
-IsWalked g t racing first limit m = (x k : ℕ) → k < 3 → 3 * x + k < limit → class_at t.classes.items (3 * x + k) ≡ Some m.class → m.floor ≤ x → AreSettledWith g t.lines.items racing first x m.word
+IsWalked g t racing first limit m = (r : ℕ) → r < limit → slice_get t.classes.items r ≡ Some m.class → m.floor ≤ place_at t.sites.items r → AreSettledWith g t.lines.items racing first (place_at t.sites.items r) m.word
 
 -- an access of the line at place x and one of the line at place u are answered for: by the lines themselves, which are settled or noted, by their sections where the modes commute, or by a hard access of one of the two spaces between them
 abbrev pub IsAnswered : GraphValue → List ℕ → List Bool → ℕ → ℕ → Access → Access → Type 0

@@ -1,11 +1,11 @@
 -- What holds between the slices of a scan.
-use Rattle.std.specs.Prelude.{◌≡◌, ℕ, ◌*◌, ◌-◌, ◌/◌, ◌<◌, ◌≤◌, List, length, Some, slice_index}
+use Rattle.std.specs.Prelude.{◌≡◌, ℕ, ◌-◌, ◌<◌, ◌≤◌, List, length, Some, slice_get, slice_index}
 use Rattle.graph_terms.specs.Graph.{GraphValue}
 use Rattle.race_sweeps.specs.declared.marks.Mark.{Mark}
 use Rattle.race_sweeps.specs.declared.members.Members.{Members}
 use Rattle.race_sweeps.specs.declared.scan.Scan.{Scan}
 use Rattle.race_sweeps.specs.declared.lookups.Table.{Table}
-use Rattle.race_sweeps.specs.Classes.{class_at}
+use Rattle.race_sweeps.specs.Classes.{place_at}
 use Rattle.race_sweeps.specs.Marks.{IsMarked}
 use Rattle.race_sweeps.specs.Members.{AreMembers}
 use Rattle.race_sweeps.specs.Reach.{IsBounded}
@@ -19,12 +19,12 @@ pub record AreListed (t : Table) (s : Members) (m : ℕ) : Type 0 where
 
 -- the lines before place `first` are scanned
 pub record IsScanned (g : GraphValue) (t : Table) (s : Scan) (first : ℕ) : Type 0 where
-  pub listed : AreListed t s.members (3 * first)
+  pub listed : AreListed t s.members (slice_index t.begins.items first)
   pub hard : IsHardTo g t s.hard.items first
-  pub reach : IsBounded (length t.lines.items) s.reach.words.items s.reach.low s.reach.high
+  pub reach : IsBounded (length t.lines.items) s.reach
   pub groups : length s.groups.slots.items ≡ length t.keys.items
   pub asks : length s.asks.slots.items ≡ length t.keys.items
 
 -- the accesses of a slice up to a number are in the groups of their classes, with floors up to their starts
 abbrev pub AreGrouped : Table → List Mark → ℕ → ℕ → Type 0
-AreGrouped t groups first m = (r c : ℕ) → 3 * first ≤ r → r < m → class_at t.classes.items r ≡ Some c → IsMarked groups c (r / 3 - first) (slice_index t.starts.items r)
+AreGrouped t groups first m = (r c : ℕ) → slice_index t.begins.items first ≤ r → r < m → slice_get t.classes.items r ≡ Some c → IsMarked groups c (place_at t.sites.items r - first) (slice_index t.starts.items r)

@@ -1,8 +1,8 @@
 //! Which classes are asked about the lines of a slice.
 
-ghost use Rattle.std.specs.Prelude.{◌≡◌, ◌≢◌, ℕ, ◌*◌, ◌<◌, [], length, Contains, Some, IsTrue, slice_get, OnOk};
+ghost use Rattle.std.specs.Prelude.{◌≡◌, ◌≢◌, ℕ, ◌<◌, [], length, Contains, Some, IsTrue, slice_get, OnOk};
 ghost use Rattle.graph_terms.specs.declared.verb.Access.{Access};
-ghost use Rattle.race_sweeps.specs.Classes.{IsNear};
+ghost use Rattle.race_sweeps.specs.Classes.{AreNumbered, IsNear};
 ghost use Rattle.race_sweeps.specs.Guards.{AreGuarded};
 ghost use Rattle.race_sweeps.specs.Marks.{IsMarked, AreMarksBelow};
 ghost use Rattle.race_sweeps.specs.Scan.{IsAsked, IsMarkAsked};
@@ -33,6 +33,7 @@ pub(crate) fn ask_all(
     requires lists { length table.now.near.items ≡ length table.now.keys.items }
     requires hard { length hard.now ≡ length table.now.keys.items }
     requires guards { length table.now.guards.items ≡ length table.now.keys.items }
+    requires numbered { AreNumbered table.now.classes.items table.now.sites.items }
     requires listed { (m : ℕ) × AreListed table.now members.now m }
     ensures slots { OnOk result (length asks.new.slots.items ≡ length table.now.keys.items) }
     ensures below { OnOk result (AreMarksBelow asks.new.marks.items (length table.now.keys.items)) }
@@ -61,6 +62,7 @@ fn ask_group(
     requires lists { length table.now.near.items ≡ length table.now.keys.items }
     requires hard { length hard.now ≡ length table.now.keys.items }
     requires guards { length table.now.guards.items ≡ length table.now.keys.items }
+    requires numbered { AreNumbered table.now.classes.items table.now.sites.items }
     requires listed { (m : ℕ) × AreListed table.now members.now m }
     ensures slots { OnOk result (length asks.new.slots.items ≡ length table.now.keys.items) }
     ensures below { OnOk result (AreMarksBelow asks.new.marks.items (length table.now.keys.items)) }
@@ -89,6 +91,7 @@ fn ask_own(
     requires group { group.class < length table.now.keys.items }
     requires hard { length hard.now ≡ length table.now.keys.items }
     requires guards { length table.now.guards.items ≡ length table.now.keys.items }
+    requires numbered { AreNumbered table.now.classes.items table.now.sites.items }
     requires listed { (m : ℕ) × AreListed table.now members.now m }
     ensures slots { OnOk result (length asks.new.slots.items ≡ length table.now.keys.items) }
     ensures below { OnOk result (AreMarksBelow asks.new.marks.items (length table.now.keys.items)) }
@@ -117,8 +120,8 @@ fn ask(
     requires class { class < length table.now.keys.items }
     requires hard { length hard.now ≡ length table.now.keys.items }
     requires guards { length table.now.guards.items ≡ length table.now.keys.items }
-    requires firsts { class < length members.now.first.items }
-    requires lasts { class < length members.now.last.items }
+    requires numbered { AreNumbered table.now.classes.items table.now.sites.items }
+    requires listed { (m : ℕ) × AreListed table.now members.now m }
     ensures slots { OnOk result (length asks.new.slots.items ≡ length asks.old.slots.items) }
     ensures below { OnOk result ((n : ℕ) → class < n → AreMarksBelow asks.old.marks.items n → AreMarksBelow asks.new.marks.items n) }
     ensures kept { OnOk result ((c b x : ℕ) → IsMarked asks.old.marks.items c b x → IsMarked asks.new.marks.items c b x) }
@@ -129,7 +132,7 @@ fn ask(
     let Some(last) = members.last[class as usize] else {
         return Ok(u32::MAX);
     };
-    if last / 3 < floor {
+    if table.sites[last as usize] < floor {
         return Ok(u32::MAX);
     }
     asks.add(class, group.word, floor)?;

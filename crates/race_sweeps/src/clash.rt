@@ -12,8 +12,10 @@ ghost use Rattle.race_sweeps.specs.Settled.{IsSettled};
 use crate::line_sections::Held;
 use graph_meaning::line_laws::accesses_fit;
 use graph_model::graph::Graph;
-pub use graph_terms::limits::MOST_ACCESSES;
 use graph_terms::verb::{Access, Mode};
+
+/// How many accesses a line has at most.
+pub const MOST_ACCESSES: u32 = 8;
 
 /// Whether two lines do not conflict, or by uses that commute alone and in sections of two
 /// different acquires of one reservation, not both shared.

@@ -10,12 +10,15 @@ use crate::clash::clash;
 use graph_model::graph::Graph;
 use graph_terms::verb::Access;
 use index_spaces::NoMemory;
-use index_spaces::room::push;
+use index_spaces::room::{push, with_room};
 use index_spaces::space::Space;
 use std::alloc::Global;
 
-/// How many pairs of classes are compared at most.
-const MOST_PAIRS: u32 = 131_072;
+/// How many pairs of classes are compared at most for each line of a graph.
+const PAIRS_OF_LINE: u32 = 16;
+
+/// How many are compared in a graph of few lines.
+const FEWEST_PAIRS: u32 = 131_072;
 
 /// A class with its column and the first and the last point of its space.
 #[derive(Clone, Copy)]
@@ -45,7 +48,7 @@ pub(crate) fn near_classes(
     }
     let mut linking = Linking {
         near: empty_lists(alloc, keys.len())?,
-        left: MOST_PAIRS,
+        left: most_pairs(graph),
     };
     for place in 0..spots.len() {
         if !linking.link_from(graph, keys, spots.as_slice(), place)? {
@@ -55,13 +58,18 @@ pub(crate) fn near_classes(
     Ok(Some(linking.near))
 }
 
+/// How many pairs of classes of a graph are compared at most.
+fn most_pairs(graph: &Graph) -> u32 {
+    FEWEST_PAIRS.max(PAIRS_OF_LINE * graph.lines())
+}
+
 /// The spots of all classes, or `None` where a space isn't known.
 fn spots(alloc: Global, graph: &Graph, keys: &[Access]) -> Result<Option<Vec<Spot>>, NoMemory>
     requires { length keys.now < 4294967296 }
     ensures { IfOk result (λ o. IfSome o (λ v. AreSpots graph.now keys.now (length keys.now) v.items)) }
 {
     let spaces = graph.spaces();
-    let mut spots = Vec::new(alloc);
+    let mut spots = with_room(alloc, keys.len())?;
     for class in 0..keys.len() {
         let key = keys[class];
         if key.space >= spaces {
@@ -125,7 +133,7 @@ fn empty_lists(alloc: Global, count: usize) -> Result<Vec<Vec<u32>>, NoMemory>
     ensures size { IfOk result (λ v. length v.items ≡ count) }
     ensures none { IfOk result (λ v. (c d : ℕ) → IsNear v.items c d → ⊥) }
 {
-    let mut lists = Vec::new(alloc);
+    let mut lists = with_room(alloc, count)?;
     for _list in 0..count {
         push(&mut lists, Vec::new(alloc))?;
     }

@@ -1,9 +1,9 @@
 //! The reservations that guard classes of reductions.
 
-ghost use Rattle.std.specs.Prelude.{◌≡◌, ℕ, ◌+◌, ◌*◌, ◌<◌, ◌≤◌, List, Option, Some, length, IfOk};
+ghost use Rattle.std.specs.Prelude.{◌≡◌, ℕ, ◌+◌, ◌<◌, length, IfOk};
 ghost use Rattle.graph_terms.specs.Graph.{locks};
 ghost use Rattle.graph_terms.specs.Reservations.{Acquires};
-ghost use Rattle.race_sweeps.specs.Classes.{AreClasses, class_at};
+ghost use Rattle.race_sweeps.specs.Classes.{AreClasses};
 ghost use Rattle.race_sweeps.specs.Guards.{AreGuards, AreOpened, IsBeforeStart, slot_of};
 ghost use Rattle.race_sweeps.specs.Held.{IsHeld};
 ghost use Rattle.race_sweeps.specs.Placed.{IsPlaced};
@@ -34,9 +34,9 @@ pub(crate) fn guards_of(
     held: &Held,
 ) -> Result<Guards, NoMemory>
     requires placed { IsPlaced graph.now order.now }
-    requires classes { AreClasses graph.now order.now classes.now.keys.items classes.now.of.items }
+    requires classes { AreClasses graph.now order.now classes.now.keys.items classes.now.of.items classes.now.sites.items classes.now.begins.items }
     requires held { IsHeld graph.now held.now }
-    ensures { IfOk result (λ s. AreGuards graph.now order.now classes.now.keys.items classes.now.of.items s.locks.items s.starts.items) }
+    ensures { IfOk result (λ s. AreGuards graph.now order.now classes.now.keys.items classes.now.of.items classes.now.sites.items s.locks.items s.starts.items) }
 {
     let mut guarding = Guarding::new(alloc, graph, classes)?;
     guarding.propose_all(graph, order, classes, held);
@@ -71,32 +71,38 @@ impl Guarding {
     /// Proposes for each class of reductions a reservation in a section of which a member lies.
     fn propose_all(&mut self, graph: &Graph, order: &[u32], classes: &Classes, held: &Held)
         requires placed { IsPlaced graph.now order.now }
-        requires classes { AreClasses graph.now order.now classes.now.keys.items classes.now.of.items }
+        requires classes { AreClasses graph.now order.now classes.now.keys.items classes.now.of.items classes.now.sites.items classes.now.begins.items }
         requires held { IsHeld graph.now held.now }
         requires locks { length self.old.locks.items ≡ length classes.now.keys.items }
         ensures locks { length self.new.locks.items ≡ length self.old.locks.items }
         ensures openings { self.new.openings.items ≡ self.old.openings.items }
     {
-        for number in 0..3 * graph.lines() {
+        for number in 0..classes.of.len() {
             self.propose(graph, order, classes, held, number);
         }
     }
 
     /// Proposes a reservation for the class of an access, where it has none.
-    fn propose(&mut self, graph: &Graph, order: &[u32], classes: &Classes, held: &Held, number: u32)
+    fn propose(
+        &mut self,
+        graph: &Graph,
+        order: &[u32],
+        classes: &Classes,
+        held: &Held,
+        number: usize,
+    )
         requires placed { IsPlaced graph.now order.now }
-        requires classes { AreClasses graph.now order.now classes.now.keys.items classes.now.of.items }
+        requires classes { AreClasses graph.now order.now classes.now.keys.items classes.now.of.items classes.now.sites.items classes.now.begins.items }
         requires held { IsHeld graph.now held.now }
         requires number { number < length classes.now.of.items }
         requires locks { length self.old.locks.items ≡ length classes.now.keys.items }
         ensures locks { length self.new.locks.items ≡ length self.old.locks.items }
         ensures openings { self.new.openings.items ≡ self.old.openings.items }
     {
-        let Some(class) = classes.of[number as usize] else {
-            return;
-        };
+        let class = classes.of[number];
         if is_reduction(classes.keys[class as usize].mode) && self.locks[class as usize].is_none() {
-            let lock = held.first_lock(graph, order[number as usize / 3]);
+            let place = classes.sites[number];
+            let lock = held.some_lock(graph, order[place as usize]);
             self.locks[class as usize] = lock;
         }
     }
@@ -104,41 +110,39 @@ impl Guarding {
     /// Opens the sections of all accesses.
     fn open_all(&mut self, graph: &Graph, order: &[u32], classes: &Classes, held: &Held)
         requires placed { IsPlaced graph.now order.now }
-        requires classes { AreClasses graph.now order.now classes.now.keys.items classes.now.of.items }
+        requires classes { AreClasses graph.now order.now classes.now.keys.items classes.now.of.items classes.now.sites.items classes.now.begins.items }
         requires held { IsHeld graph.now held.now }
         requires locks { length self.old.locks.items ≡ length classes.now.keys.items }
         requires openings { length self.old.openings.items ≡ length graph.now.lines + length (locks graph.now) }
         ensures locks { length self.new.locks.items ≡ length self.old.locks.items }
         ensures openings { length self.new.openings.items ≡ length self.old.openings.items }
-        ensures opened { AreOpened graph.now held.now order.now classes.now.of.items self.new.locks.items self.new.openings.items (length classes.now.of.items) }
+        ensures opened { AreOpened graph.now held.now order.now classes.now.of.items classes.now.sites.items self.new.locks.items self.new.openings.items (length classes.now.of.items) }
     {
-        for number in 0..3 * graph.lines() {
+        for number in 0..classes.of.len() {
             self.open(graph, order, classes, held, number);
         }
     }
 
     /// Opens the section of an access of a guarded class; where there is none, no reservation
     /// guards the class.
-    fn open(&mut self, graph: &Graph, order: &[u32], classes: &Classes, held: &Held, number: u32)
+    fn open(&mut self, graph: &Graph, order: &[u32], classes: &Classes, held: &Held, number: usize)
         requires placed { IsPlaced graph.now order.now }
-        requires classes { AreClasses graph.now order.now classes.now.keys.items classes.now.of.items }
+        requires classes { AreClasses graph.now order.now classes.now.keys.items classes.now.of.items classes.now.sites.items classes.now.begins.items }
         requires held { IsHeld graph.now held.now }
         requires number { number < length classes.now.of.items }
         requires locks { length self.old.locks.items ≡ length classes.now.keys.items }
         requires openings { length self.old.openings.items ≡ length graph.now.lines + length (locks graph.now) }
-        requires opened { AreOpened graph.now held.now order.now classes.now.of.items self.old.locks.items self.old.openings.items number }
+        requires opened { AreOpened graph.now held.now order.now classes.now.of.items classes.now.sites.items self.old.locks.items self.old.openings.items number }
         ensures locks { length self.new.locks.items ≡ length self.old.locks.items }
         ensures openings { length self.new.openings.items ≡ length self.old.openings.items }
-        ensures opened { AreOpened graph.now held.now order.now classes.now.of.items self.new.locks.items self.new.openings.items (number + 1) }
+        ensures opened { AreOpened graph.now held.now order.now classes.now.of.items classes.now.sites.items self.new.locks.items self.new.openings.items (number + 1) }
     {
-        let Some(class) = classes.of[number as usize] else {
-            return;
-        };
+        let class = classes.of[number];
         let Some(lock) = self.locks[class as usize] else {
             return;
         };
-        let place = number / 3;
-        match held.acquire(graph, lock, order[place as usize]) {
+        let place = classes.sites[number];
+        match held.acquire(lock, order[place as usize]) {
             None => self.locks[class as usize] = None,
             Some(acquire) => {
                 let slot = slot_of(graph, lock, acquire);
@@ -158,15 +162,15 @@ impl Guarding {
         held: &Held,
     ) -> Result<Guards, NoMemory>
         requires placed { IsPlaced graph.now order.now }
-        requires classes { AreClasses graph.now order.now classes.now.keys.items classes.now.of.items }
+        requires classes { AreClasses graph.now order.now classes.now.keys.items classes.now.of.items classes.now.sites.items classes.now.begins.items }
         requires held { IsHeld graph.now held.now }
         requires locks { length self.locks.items ≡ length classes.now.keys.items }
         requires openings { length self.openings.items ≡ length graph.now.lines + length (locks graph.now) }
-        requires opened { AreOpened graph.now held.now order.now classes.now.of.items self.locks.items self.openings.items (length classes.now.of.items) }
-        ensures { IfOk result (λ s. AreGuards graph.now order.now classes.now.keys.items classes.now.of.items s.locks.items s.starts.items) }
+        requires opened { AreOpened graph.now held.now order.now classes.now.of.items classes.now.sites.items self.locks.items self.openings.items (length classes.now.of.items) }
+        ensures { IfOk result (λ s. AreGuards graph.now order.now classes.now.keys.items classes.now.of.items classes.now.sites.items s.locks.items s.starts.items) }
     {
         let mut starts = with_room(alloc, classes.of.len())?;
-        for number in 0..3 * graph.lines() {
+        for number in 0..classes.of.len() {
             let start = self.start(graph, order, classes, held, number);
             push(&mut starts, start)?;
         }
@@ -184,24 +188,22 @@ impl Guarding {
         order: &[u32],
         classes: &Classes,
         held: &Held,
-        number: u32,
+        number: usize,
     ) -> u32
         requires placed { IsPlaced graph.now order.now }
-        requires classes { AreClasses graph.now order.now classes.now.keys.items classes.now.of.items }
+        requires classes { AreClasses graph.now order.now classes.now.keys.items classes.now.of.items classes.now.sites.items classes.now.begins.items }
         requires held { IsHeld graph.now held.now }
         requires number { number < length classes.now.of.items }
         requires locks { length self.now.locks.items ≡ length classes.now.keys.items }
         requires openings { length self.now.openings.items ≡ length graph.now.lines + length (locks graph.now) }
-        ensures { (x : ℕ) → x < result → IsBeforeStart graph.now held.now order.now classes.now.of.items self.now.locks.items self.now.openings.items number x }
+        ensures { (x : ℕ) → x < result → IsBeforeStart graph.now held.now order.now classes.now.of.items classes.now.sites.items self.now.locks.items self.now.openings.items number x }
     {
-        let Some(class) = classes.of[number as usize] else {
-            return 0;
-        };
+        let class = classes.of[number];
         let Some(lock) = self.locks[class as usize] else {
             return 0;
         };
-        let line = order[number as usize / 3];
-        let Some(acquire) = held.acquire(graph, lock, line) else {
+        let place = classes.sites[number];
+        let Some(acquire) = held.acquire(lock, order[place as usize]) else {
             return 0;
         };
         self.openings[slot_of(graph, lock, acquire)]

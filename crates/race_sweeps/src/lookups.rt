@@ -12,19 +12,21 @@ use crate::line_sections::Held;
 use graph_model::graph::Graph;
 use graph_terms::verb::Access;
 use index_spaces::NoMemory;
-use index_spaces::room::{filled, push};
+use index_spaces::room::{filled, push, with_room};
 use std::alloc::Global;
 
-/// The line at each place and the place of each line; the access of each class, the class of
-/// access `k` of the line at place `p` as number `3 p + k`, and beside each class those that it
-/// conflicts with; the reservation that guards each class, and the place from which on members of
-/// such classes may lie in the section of an access.
+/// The line at each place and the place of each line; the access of each class, the class and the
+/// place of each access by its number, the number of the first access of the line at each place, and
+/// beside each class those that it conflicts with; the reservation that guards each class, and the
+/// place from which on members of such classes may lie in the section of an access.
 #[derive(Drop)]
 pub(crate) struct Table {
     pub(crate) lines: Vec<u32>,
     pub(crate) places: Vec<u32>,
     pub(crate) keys: Vec<Access>,
-    pub(crate) classes: Vec<Option<u32>>,
+    pub(crate) classes: Vec<u32>,
+    pub(crate) sites: Vec<u32>,
+    pub(crate) begins: Vec<u32>,
     pub(crate) near: Vec<Vec<u32>>,
     pub(crate) guards: Vec<Option<u32>>,
     pub(crate) starts: Vec<u32>,
@@ -55,6 +57,8 @@ impl Table {
             places,
             keys: classes.keys,
             classes: classes.of,
+            sites: classes.sites,
+            begins: classes.begins,
             near,
             guards: guards.locks,
             starts: guards.starts,
@@ -66,7 +70,7 @@ impl Table {
 fn copied(alloc: Global, order: &[u32]) -> Result<Vec<u32>, NoMemory>
     ensures { IfOk result (λ v. v.items ≡ order.now) }
 {
-    let mut lines = Vec::new(alloc);
+    let mut lines = with_room(alloc, order.len())?;
     for line in order {
         push(&mut lines, *line)?;
     }

@@ -1,11 +1,10 @@
 //! The members of classes.
 
-ghost use Rattle.std.specs.Prelude.{◌≡◌, ℕ, ◌+◌, ◌<◌, List, Option, length, OnOk, IfOk};
-ghost use Rattle.race_sweeps.specs.Members.{AreMembers, IsLastBelow};
-ghost use Rattle.race_sweeps.specs.Classes.{class_at};
+ghost use Rattle.std.specs.Prelude.{◌≡◌, ℕ, ◌+◌, ◌<◌, List, Some, length, slice_get, OnOk, IfOk};
+ghost use Rattle.race_sweeps.specs.Members.{AreMembers};
 
 use index_spaces::NoMemory;
-use index_spaces::room::{filled, push};
+use index_spaces::room::{filled, push, with_room};
 use std::alloc::Global;
 
 /// The place of the first member of each class and its last member, and for each access the member
@@ -18,22 +17,22 @@ pub(crate) struct Members {
 }
 
 impl Members {
-    /// No members of so many classes.
-    pub(crate) fn new(alloc: Global, classes: usize) -> Result<Members, NoMemory>
+    /// No members of so many classes, with room for so many.
+    pub(crate) fn new(alloc: Global, classes: usize, members: usize) -> Result<Members, NoMemory>
         ensures firsts { IfOk result (λ m. length m.first.items ≡ classes) }
         ensures size { IfOk result (λ m. length m.last.items ≡ classes) }
-        ensures none { IfOk result (λ m. (of : List (Option ℕ)) → AreMembers of m.last.items m.earlier.items 0) }
+        ensures none { IfOk result (λ m. (of : List ℕ) → AreMembers of m.last.items m.earlier.items 0) }
     {
         Ok(Members {
             first: filled(alloc, u32::MAX, classes)?,
             last: filled(alloc, None, classes)?,
-            earlier: Vec::new(alloc),
+            earlier: with_room(alloc, members)?,
         })
     }
 
-    /// Lists the access of the next number.
-    pub(crate) fn add(&mut self, classes: &[Option<u32>], number: u32) -> Result<(), NoMemory>
-        requires known { (c : ℕ) → class_at classes.now number ≡ Some c → c < length self.old.last.items }
+    /// Lists the access of the next number, at its place.
+    pub(crate) fn add(&mut self, classes: &[u32], number: u32, place: u32) -> Result<(), NoMemory>
+        requires known { (c : ℕ) → slice_get classes.now number ≡ Some c → c < length self.old.last.items }
         requires number { number < length classes.now }
         requires firsts { length self.old.first.items ≡ length self.old.last.items }
         requires members { AreMembers classes.now self.old.last.items self.old.earlier.items number }
@@ -41,15 +40,10 @@ impl Members {
         ensures size { length self.new.last.items ≡ length self.old.last.items }
         ensures members { OnOk result (AreMembers classes.now self.new.last.items self.new.earlier.items (number + 1)) }
     {
-        match classes[number as usize] {
-            None => push(&mut self.earlier, None),
-            Some(class) => {
-                push(&mut self.earlier, self.last[class as usize])?;
-                self.last[class as usize] = Some(number);
-                let first = self.first[class as usize];
-                self.first[class as usize] = first.min(number / 3);
-                Ok(())
-            }
-        }
+        let class = classes[number as usize] as usize;
+        push(&mut self.earlier, self.last[class])?;
+        self.last[class] = Some(number);
+        self.first[class] = self.first[class].min(place);
+        Ok(())
     }
 }

@@ -1,9 +1,9 @@
 //! Which lines of a slice the lines before them reach.
 
-ghost use Rattle.std.specs.Prelude.{◌≡◌, ℕ, ◌+◌, ◌<◌, ◌≤◌, ◌⊎◌, true, length, slice_index, slice_set, IfOk};
+ghost use Rattle.std.specs.Prelude.{◌≡◌, ℕ, ◌+◌, ◌*◌, ◌/◌, ◌<◌, ◌≤◌, ◌⊎◌, true, length, slice_index, slice_set, IfOk};
 ghost use Rattle.std.specs.Int.RustNames.{bit_or};
 ghost use Rattle.race_sweeps.specs.Marks.{bit_in};
-ghost use Rattle.race_sweeps.specs.Reach.{AreReachedOrSelf, IsReach, AreOutside, IsBounded};
+ghost use Rattle.race_sweeps.specs.Reach.{AreReachedOrSelf, IsReach, IsBounded};
 ghost use Rattle.race_sweeps.specs.Table.{IsTable};
 
 use crate::lookups::Table;
@@ -13,24 +13,23 @@ use index_spaces::NoMemory;
 use index_spaces::room::filled;
 use std::alloc::Global;
 
-/// For each place the lines of a slice that the line there has a path to, as far as was looked;
-/// only words from `low` up to `high` may have bits.
+/// For each place the lines of a slice that the line there has a path to, as far as was looked. Of
+/// 64 places some word may have bits only where their block is marked, so that a sweep passes over
+/// all other blocks.
 #[derive(Drop)]
 pub(crate) struct Reach {
     pub(crate) words: Vec<u64>,
-    pub(crate) low: u32,
-    pub(crate) high: u32,
+    pub(crate) blocks: Vec<bool>,
 }
 
 impl Reach {
     /// Words for so many places.
     pub(crate) fn new(alloc: Global, places: usize) -> Result<Reach, NoMemory>
-        ensures { IfOk result (λ r. IsBounded places r.words.items r.low r.high) }
+        ensures { IfOk result (IsBounded places) }
     {
         Ok(Reach {
             words: filled(alloc, 0, places)?,
-            low: 0,
-            high: 0,
+            blocks: filled(alloc, false, places / 64 + 1)?,
         })
     }
 
@@ -53,72 +52,114 @@ impl Reach {
         stop: u32,
     )
         requires table { IsTable graph.now table.now }
-        requires bounded { IsBounded (length table.now.lines.items) self.old.words.items self.old.low self.old.high }
+        requires bounded { IsBounded (length table.now.lines.items) self.old }
+        requires begins { first < end }
         requires end { end ≤ length table.now.lines.items }
         requires slice { end ≤ first + 64 }
         ensures reach { IsReach graph.now table.now.lines.items first self.new.words.items }
-        ensures bounded { IsBounded (length table.now.lines.items) self.new.words.items self.new.low self.new.high }
+        ensures bounded { IsBounded (length table.now.lines.items) self.new }
     {
-        clear(&mut self.words, self.low, self.high);
-        self.low = stop;
-        self.high = end;
-        let mut place = end;
-        while place > stop {
-            place -= 1;
-            let word = self.words[place as usize] | own_bit(first, place, targets);
-            if word != 0 {
-                pass(&mut self.words, graph, table, place, word, stop, end);
+        self.clear();
+        self.blocks[first as usize / 64] = true;
+        let mut block = (end - 1) / 64 + 1;
+        while block > stop / 64 {
+            block -= 1;
+            if self.blocks[block as usize] {
+                self.sweep_block(graph, table, first, end, targets, block, stop);
             }
         }
     }
-}
 
-/// Clears the words from one place up to another, outside of which there are no bits.
-fn clear(words: &mut Vec<u64>, low: u32, high: u32)
-    requires high { high ≤ length words.old.items }
-    requires outside { AreOutside words.old.items low high }
-    ensures size { length words.new.items ≡ length words.old.items }
-    ensures none { (x : ℕ) → slice_index words.new.items x ≡ 0 }
-{
-    for place in low..high {
-        words[place as usize] = 0;
+    /// The same in a block.
+    fn sweep_block(
+        &mut self,
+        graph: &Graph,
+        table: &Table,
+        first: u32,
+        end: u32,
+        targets: u64,
+        block: u32,
+        stop: u32,
+    )
+        requires table { IsTable graph.now table.now }
+        requires bounded { IsBounded (length table.now.lines.items) self.old }
+        requires block { 64 * block < end }
+        requires end { end ≤ length table.now.lines.items }
+        requires slice { end ≤ first + 64 }
+        requires reach { IsReach graph.now table.now.lines.items first self.old.words.items }
+        ensures reach { IsReach graph.now table.now.lines.items first self.new.words.items }
+        ensures bounded { IsBounded (length table.now.lines.items) self.new }
+    {
+        let begin = 64 * block;
+        let mut place = begin + 64.min(end - begin);
+        while place > begin {
+            place -= 1;
+            let word = self.words[place as usize] | own_bit(first, place, targets);
+            if word != 0 {
+                self.pass(graph, table, place, word, stop);
+            }
+        }
     }
-}
 
-/// Tells the sources of a line, between two places, what it reaches.
-fn pass(
-    words: &mut Vec<u64>,
-    graph: &Graph,
-    table: &Table,
-    place: u32,
-    word: u64,
-    low: u32,
-    high: u32,
-)
-    requires table { IsTable graph.now table.now }
-    requires place { place < length table.now.lines.items }
-    requires size { length words.old.items ≡ length table.now.lines.items }
-    ensures reach { (first : ℕ) → IsReach graph.now table.now.lines.items first words.old.items
-        → AreReachedOrSelf graph.now table.now.lines.items first place word
-        → IsReach graph.now table.now.lines.items first words.new.items }
-    ensures outside { AreOutside words.old.items low high → AreOutside words.new.items low high }
-{
-    edges_between_lines();
-    let _ = graph.lines();
-    let edges = graph.edges_into(table.lines[place as usize]);
-    for edge in edges {
-        add(words, table.places[edge.from as usize], word, low, high);
+    /// Tells the sources of a line, from a place on, what it reaches.
+    fn pass(&mut self, graph: &Graph, table: &Table, place: u32, word: u64, stop: u32)
+        requires table { IsTable graph.now table.now }
+        requires place { place < length table.now.lines.items }
+        requires bounded { IsBounded (length table.now.lines.items) self.old }
+        ensures reach { (first : ℕ) → IsReach graph.now table.now.lines.items first self.old.words.items
+            → AreReachedOrSelf graph.now table.now.lines.items first place word
+            → IsReach graph.now table.now.lines.items first self.new.words.items }
+        ensures bounded { IsBounded (length table.now.lines.items) self.new }
+    {
+        edges_between_lines();
+        let _ = graph.lines();
+        let edges = graph.edges_into(table.lines[place as usize]);
+        for edge in edges {
+            let source = table.places[edge.from as usize];
+            if source >= stop {
+                self.add(source, word);
+            }
+        }
     }
-}
 
-/// Adds bits to the word of a place between two others.
-fn add(words: &mut Vec<u64>, place: u32, word: u64, low: u32, high: u32)
-    requires { place < length words.old.items }
-    ensures words { (words.new.items ≡ words.old.items) ⊎ (words.new.items ≡ slice_set words.old.items place (bit_or (slice_index words.old.items place) word)) }
-    ensures outside { AreOutside words.old.items low high → AreOutside words.new.items low high }
-{
-    if low <= place && place < high {
-        words[place as usize] |= word;
+    /// Adds bits to the word of a place.
+    fn add(&mut self, place: u32, word: u64)
+        requires place { place < length self.old.words.items }
+        requires bounded { IsBounded (length self.old.words.items) self.old }
+        ensures words { self.new.words.items ≡ slice_set self.old.words.items place (bit_or (slice_index self.old.words.items place) word) }
+        ensures bounded { IsBounded (length self.old.words.items) self.new }
+    {
+        self.words[place as usize] |= word;
+        self.blocks[place as usize / 64] = true;
+    }
+
+    /// Clears all words.
+    fn clear(&mut self)
+        requires { IsBounded (length self.old.words.items) self.old }
+        ensures bounded { IsBounded (length self.old.words.items) self.new }
+        ensures none { (x : ℕ) → slice_index self.new.words.items x ≡ 0 }
+    {
+        for block in 0..self.blocks.len() {
+            if self.blocks[block] {
+                self.clear_block(block);
+            }
+        }
+    }
+
+    /// Clears the words of a block.
+    fn clear_block(&mut self, block: usize)
+        requires bounded { IsBounded (length self.old.words.items) self.old }
+        requires block { block < length self.old.blocks.items }
+        ensures bounded { IsBounded (length self.old.words.items) self.new }
+        ensures none { (x : ℕ) → x / 64 ≡ block → slice_index self.new.words.items x ≡ 0 }
+        ensures kept { (x : ℕ) → slice_index self.old.words.items x ≡ 0 → slice_index self.new.words.items x ≡ 0 }
+    {
+        let begin = 64 * block;
+        let end = begin + 64.min(self.words.len() - begin);
+        for place in begin..end {
+            self.words[place] = 0;
+        }
+        self.blocks[block] = false;
     }
 }
 

@@ -1,8 +1,8 @@
 //! The scan for lines that race.
 
-ghost use Rattle.std.specs.Prelude.{◌≡◌, ℕ, ◌+◌, ◌-◌, ◌*◌, ◌/◌, ◌<◌, ◌≤◌, [], length, Some, slice_index, OnOk, IfOk};
+ghost use Rattle.std.specs.Prelude.{◌≡◌, ℕ, ◌+◌, ◌-◌, ◌<◌, ◌≤◌, [], length, Some, slice_get, slice_index, OnOk, IfOk};
 ghost use Rattle.race_sweeps.specs.Held.{IsHeld};
-ghost use Rattle.race_sweeps.specs.Classes.{class_at};
+ghost use Rattle.race_sweeps.specs.Classes.{AreNumbered, IsBegin, place_at};
 ghost use Rattle.race_sweeps.specs.Marks.{AreMarksBelow, IsMarked};
 ghost use Rattle.race_sweeps.specs.Scan.{AreAnsweredAt};
 ghost use Rattle.race_sweeps.specs.ScanState.{AreListed, IsScanned, AreGrouped};
@@ -41,7 +41,7 @@ impl Scan {
     {
         let classes = table.keys.len();
         Ok(Scan {
-            members: Members::new(alloc, classes)?,
+            members: Members::new(alloc, classes, table.classes.len())?,
             hard: filled(alloc, 0, classes)?,
             reach: Reach::new(alloc, table.lines.len())?,
             groups: Marks::new(alloc, classes)?,
@@ -132,22 +132,26 @@ fn list(
     end: u32,
 ) -> Result<u64, NoMemory>
     requires short { end ≤ first + 64 }
-    requires classes { length table.now.classes.items ≡ 3 * length table.now.lines.items }
-    requires known { (m c : ℕ) → class_at table.now.classes.items m ≡ Some c → c < length table.now.keys.items }
+    requires numbered { AreNumbered table.now.classes.items table.now.sites.items }
+    requires known { (m c : ℕ) → slice_get table.now.classes.items m ≡ Some c → c < length table.now.keys.items }
     requires starts { length table.now.starts.items ≡ length table.now.classes.items }
-    requires few { length table.now.lines.items ≤ 8192 }
+    requires count { length table.now.begins.items ≡ length table.now.lines.items + 1 }
     requires end { end ≤ length table.now.lines.items }
     requires begins { first ≤ end }
-    requires listed { AreListed table.now members.old (3 * first) }
+    requires begin { IsBegin table.now.sites.items first (slice_index table.now.begins.items first) }
+    requires stop { IsBegin table.now.sites.items end (slice_index table.now.begins.items end) }
+    requires listed { AreListed table.now members.old (slice_index table.now.begins.items first) }
     requires slots { length groups.old.slots.items ≡ length table.now.keys.items }
     requires empty { groups.old.marks.items ≡ [] }
-    ensures listed { OnOk result (AreListed table.now members.new (3 * end)) }
+    ensures listed { OnOk result (AreListed table.now members.new (slice_index table.now.begins.items end)) }
     ensures slots { OnOk result (length groups.new.slots.items ≡ length table.now.keys.items) }
     ensures below { OnOk result (AreMarksBelow groups.new.marks.items (length table.now.keys.items)) }
-    ensures grouped { OnOk result (AreGrouped table.now groups.new.marks.items first (3 * end)) }
+    ensures grouped { OnOk result (AreGrouped table.now groups.new.marks.items first (slice_index table.now.begins.items end)) }
 {
+    let begin = table.begins[first as usize];
+    let stop = table.begins[end as usize];
     let mut targets = 0;
-    for number in 3 * first..3 * end {
+    for number in begin..stop {
         targets |= list_one(members, groups, table, first, number)?;
     }
     Ok(targets)
@@ -161,9 +165,10 @@ fn list_one(
     first: u32,
     number: u32,
 ) -> Result<u64, NoMemory>
-    requires begins { 3 * first ≤ number }
-    requires short { number < 3 * first + 192 }
-    requires known { (m c : ℕ) → class_at table.now.classes.items m ≡ Some c → c < length table.now.keys.items }
+    requires begins { first ≤ place_at table.now.sites.items number }
+    requires short { place_at table.now.sites.items number < first + 64 }
+    requires numbered { AreNumbered table.now.classes.items table.now.sites.items }
+    requires known { (m c : ℕ) → slice_get table.now.classes.items m ≡ Some c → c < length table.now.keys.items }
     requires starts { length table.now.starts.items ≡ length table.now.classes.items }
     requires number { number < length table.now.classes.items }
     requires listed { AreListed table.now members.old number }
@@ -173,15 +178,13 @@ fn list_one(
     ensures slots { OnOk result (length groups.new.slots.items ≡ length table.now.keys.items) }
     ensures below { OnOk result (AreMarksBelow groups.new.marks.items (length table.now.keys.items)) }
     ensures kept { OnOk result ((c b x : ℕ) → IsMarked groups.old.marks.items c b x → IsMarked groups.new.marks.items c b x) }
-    ensures grouped { OnOk result ((c : ℕ) → class_at table.now.classes.items number ≡ Some c → IsMarked groups.new.marks.items c (number / 3 - first) (slice_index table.now.starts.items number)) }
+    ensures grouped { OnOk result ((c : ℕ) → slice_get table.now.classes.items number ≡ Some c
+        → IsMarked groups.new.marks.items c (place_at table.now.sites.items number - first) (slice_index table.now.starts.items number)) }
 {
-    members.add(table.classes.as_slice(), number)?;
-    match table.classes[number as usize] {
-        None => Ok(0),
-        Some(class) => {
-            let bit = 1 << (number / 3 - first);
-            groups.add(class, bit, table.starts[number as usize])?;
-            Ok(bit)
-        }
-    }
+    let place = table.sites[number as usize];
+    let class = table.classes[number as usize];
+    members.add(table.classes.as_slice(), number, place)?;
+    let bit = 1 << (place - first);
+    groups.add(class, bit, table.starts[number as usize])?;
+    Ok(bit)
 }

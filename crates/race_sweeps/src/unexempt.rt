@@ -1,6 +1,6 @@
 //! The hard accesses, which no exemption covers.
 
-ghost use Rattle.std.specs.Prelude.{◌≡◌, ℕ, ◌*◌, ◌<◌, ◌≤◌, length, Some, slice_get, slice_index, IsTrue};
+ghost use Rattle.std.specs.Prelude.{◌≡◌, ℕ, ◌<◌, ◌≤◌, length, Some, slice_get, slice_index, IsTrue};
 ghost use Rattle.graph_terms.specs.declared.verb.Access.{Access};
 ghost use Rattle.graph_terms.specs.Graph.{GraphValue};
 ghost use Rattle.race_sweeps.specs.Classes.{IsNear};
@@ -30,9 +30,9 @@ pub(crate) fn harden_all(
     requires held { IsHeld graph.now held.now }
     requires groups { AreMarksBelow groups.now (length table.now.keys.items) }
     requires size { length hard.old.items ≡ length table.now.keys.items }
-    requires listed { (end : ℕ) × (end ≤ length table.now.lines.items) × AreListed table.now members.now (3 * end) }
+    requires listed { (end : ℕ) × (end ≤ length table.now.lines.items) × AreListed table.now members.now (slice_index table.now.begins.items end) }
     ensures size { length hard.new.items ≡ length table.now.keys.items }
-    ensures hard { (end : ℕ) → end ≤ length table.now.lines.items → AreListed table.now members.now (3 * end) → IsHardTo graph.now table.now hard.old.items end → IsHardTo graph.now table.now hard.new.items end }
+    ensures hard { (end : ℕ) → end ≤ length table.now.lines.items → AreListed table.now members.now (slice_index table.now.begins.items end) → IsHardTo graph.now table.now hard.old.items end → IsHardTo graph.now table.now hard.new.items end }
 {
     for group in groups {
         harden_group(hard, *group, members, graph, table, held);
@@ -52,18 +52,19 @@ fn harden_group(
     requires held { IsHeld graph.now held.now }
     requires group { group.class < length table.now.keys.items }
     requires size { length hard.old.items ≡ length table.now.keys.items }
-    requires listed { (end : ℕ) × (end ≤ length table.now.lines.items) × AreListed table.now members.now (3 * end) }
+    requires listed { (end : ℕ) × (end ≤ length table.now.lines.items) × AreListed table.now members.now (slice_index table.now.begins.items end) }
     ensures size { length hard.new.items ≡ length table.now.keys.items }
-    ensures hard { (end : ℕ) → end ≤ length table.now.lines.items → AreListed table.now members.now (3 * end) → IsHardTo graph.now table.now hard.old.items end → IsHardTo graph.now table.now hard.new.items end }
+    ensures hard { (end : ℕ) → end ≤ length table.now.lines.items → AreListed table.now members.now (slice_index table.now.begins.items end) → IsHardTo graph.now table.now hard.old.items end → IsHardTo graph.now table.now hard.new.items end }
 {
     let _ = graph.lines();
     let Some(last) = members.last[group.class as usize] else {
         return;
     };
     let key = table.keys[group.class as usize];
-    let line = table.lines[last as usize / 3];
+    let place = table.sites[last as usize];
+    let line = table.lines[place as usize];
     if is_hard(graph, held, key.mode, line) {
-        harden(hard, table, group.class, last / 3);
+        harden(hard, table, group.class, place);
     }
 }
 

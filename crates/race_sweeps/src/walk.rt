@@ -1,6 +1,6 @@
 //! The walks over the members of the classes that are asked, which note the lines that race.
 
-ghost use Rattle.std.specs.Prelude.{◌≡◌, ℕ, ◌+◌, ◌*◌, ◌<◌, ◌≤◌, true, length, Contains, slice_index, IsTrue};
+ghost use Rattle.std.specs.Prelude.{◌≡◌, ℕ, ◌+◌, ◌<◌, ◌≤◌, true, length, Contains, slice_index, IsTrue};
 ghost use Rattle.race_sweeps.specs.Held.{IsHeld};
 ghost use Rattle.race_sweeps.specs.Marks.{AreMarksBelow, bit_in};
 ghost use Rattle.race_sweeps.specs.Reach.{IsReach};
@@ -33,7 +33,7 @@ impl Scan {
         requires reach { IsReach graph.now table.now.lines.items first self.now.reach.words.items }
         requires asks { AreMarksBelow self.now.asks.marks.items (length table.now.keys.items) }
         requires first { first ≤ length table.now.lines.items }
-        requires listed { (m : ℕ) × (m ≤ 3 * length table.now.lines.items) × (m ≤ 3 * first + 192) × AreListed table.now self.now.members m }
+        requires listed { (end : ℕ) × (end ≤ length table.now.lines.items) × (end ≤ first + 64) × AreListed table.now self.now.members (slice_index table.now.begins.items end) }
         requires size { length racing.old.items ≡ length graph.now.lines }
         ensures size { length racing.new.items ≡ length graph.now.lines }
         ensures noted { AreStillNoted racing.old.items racing.new.items }
@@ -60,7 +60,7 @@ impl Scan {
         requires reach { IsReach graph.now table.now.lines.items first self.now.reach.words.items }
         requires class { ask.class < length table.now.keys.items }
         requires first { first ≤ length table.now.lines.items }
-        requires listed { (m : ℕ) × (m ≤ 3 * length table.now.lines.items) × (m ≤ 3 * first + 192) × AreListed table.now self.now.members m }
+        requires listed { (end : ℕ) × (end ≤ length table.now.lines.items) × (end ≤ first + 64) × AreListed table.now self.now.members (slice_index table.now.begins.items end) }
         requires size { length racing.old.items ≡ length graph.now.lines }
         ensures size { length racing.new.items ≡ length graph.now.lines }
         ensures noted { AreStillNoted racing.old.items racing.new.items }
@@ -68,7 +68,7 @@ impl Scan {
     {
         let mut found = self.members.last[ask.class as usize];
         while let Some(number) = found {
-            let place = number / 3;
+            let place = table.sites[number as usize];
             if place < ask.floor {
                 return;
             }

@@ -6,9 +6,8 @@ use Rattle.graph_meaning.specs.Trace.{IsLawful}
 use Rattle.graph_reader.specs.Laws.{OneReading}
 use Rattle.graph_words.specs.Text.{GraphText}
 use Rattle.realm_audit.specs.Lawful.{IsRefusal, NamesLines}
-use Rattle.graph_reader.specs.FirstFault.{line_count}
 use Rattle.realm_audit.specs.Reading.{IsTraceFault, IsNoText, TextTells}
-use Rattle.realm_audit.specs.Parts.{graph_bytes, trace_bytes}
+use Rattle.realm_audit.specs.Parts.{newlines, graph_bytes, trace_bytes}
 use Rattle.realm_audit.specs.declared.refusal.AuditRefusal.{AuditRefusal}
 use Rattle.realm_audit.specs.declared.refusal.AuditRefusal.TheVariants as fault
 use Rattle.graph_answers.specs.AuditAnswer.{HasTrace}
@@ -23,23 +22,23 @@ pub fault_of : (g h : GraphValue) (trace : List ℕ) (why : AuditRefusal) → g 
 fault_of g h trace why e ne r l not = subst (λ x. HasFault x trace why) e (record { no_memory = ne; refused = r; names = l; unlawful = not })
 
 -- a trace that was read and judged
-pub found_says : (g : GraphValue) (bytes trace : List ℕ) → HasTrace g bytes trace → (a : Audited) → TraceFound g trace a → TraceSays g bytes a
-found_says g bytes trace h Lawful f = (trace, h, f)
-found_says g bytes trace h (Refused r) f = f
-found_says g bytes trace h (NoTrace n) f = absurd f
-found_says g bytes trace h (Unlawful why) f = (trace, h, f)
+pub found_says : (g : GraphValue) (lines : ℕ) (bytes trace : List ℕ) → HasTrace g bytes trace → (a : Audited) → TraceFound g trace a → TraceSays g lines bytes a
+found_says g lines bytes trace h Lawful f = (trace, h, f)
+found_says g lines bytes trace h (Refused r) f = f
+found_says g lines bytes trace h (NoTrace n) f = absurd f
+found_says g lines bytes trace h (Unlawful why) f = (trace, h, f)
 
 -- what is behind the text of an accepted graph was judged
-pub text_says : (bytes : List ℕ) (g : GraphValue) → GraphText (graph_bytes bytes) g → Accepted g → (a : Audited) → TraceSays g (trace_bytes bytes) a → AuditSays bytes a
+pub text_says : (bytes : List ℕ) (g : GraphValue) → GraphText (graph_bytes bytes) g → Accepted g → (a : Audited) → TraceSays g (newlines (graph_bytes bytes)) (trace_bytes bytes) a → AuditSays bytes a
 text_says bytes g t acc Lawful s = (g, t, acc, s)
 text_says bytes g t acc (Refused r) s = subst (IsCheckRefusal (graph_bytes bytes)) (sym s) tt
 text_says bytes g t acc (NoTrace n) s = (g, t, acc, s)
 text_says bytes g t acc (Unlawful why) s = (g, t, acc, s)
 
 -- the bytes behind a graph are the text of no trace, of a graph that is the same
-pub no_trace_of : (g h k : GraphValue) (bytes : List ℕ) (number n : ℕ) → g ≡ h → k ≡ h → IsTraceFault g bytes number → IsNoText g bytes → n ≡ line_count k + 1 + number → HasNoTrace h bytes n
-no_trace_of g h k bytes number n e f is none counted =
-    subst (λ x. HasNoTrace x bytes n) e (record { «number» = number; is_fault = is; no_text = none; «counted» = subst (λ x. n ≡ line_count x + 1 + number) (f ∙ sym e) counted })
+pub no_trace_of : (g h : GraphValue) (lines : ℕ) (bytes : List ℕ) (number n : ℕ) → g ≡ h → IsTraceFault g bytes number → IsNoText g bytes → n ≡ lines + number → HasNoTrace h lines bytes n
+no_trace_of g h lines bytes number n e is none counted =
+    subst (λ x. HasNoTrace x lines bytes n) e (record { «number» = number; is_fault = is; no_text = none; «counted» = counted })
 
 -- an accepted graph with a lawful trace behind it is found so, or memory ran out
 pub lawful_is_found : (bytes : List ℕ) → OneReading (graph_bytes bytes) → TextTells → (a : Audited) → AuditSays bytes a

@@ -3,10 +3,9 @@ use Rattle.std.specs.Prelude.{◌≡◌, ◌≢◌, ℕ, ◌+◌, List}
 use Rattle.graph_terms.specs.Graph.{GraphValue}
 use Rattle.graph_meaning.specs.Rules.{Accepted}
 use Rattle.graph_meaning.specs.Trace.{IsLawful}
-use Rattle.graph_reader.specs.FirstFault.{line_count}
 use Rattle.graph_words.specs.Text.{GraphText}
 use Rattle.realm_audit.specs.Lawful.{IsRefusal, NamesLines}
-use Rattle.realm_audit.specs.Parts.{graph_bytes, trace_bytes}
+use Rattle.realm_audit.specs.Parts.{newlines, graph_bytes, trace_bytes}
 use Rattle.realm_audit.specs.Reading.{IsTraceFault, IsNoText}
 use Rattle.realm_audit.specs.declared.refusal.AuditRefusal.{AuditRefusal}
 use Rattle.realm_audit.specs.declared.refusal.AuditRefusal.TheVariants as fault
@@ -40,12 +39,12 @@ pub record HasFault (g : GraphValue) (trace : List ℕ) (why : AuditRefusal) : T
   pub names : NamesLines g trace why
   pub unlawful : IsLawful g trace → ⊥
 
--- the bytes behind the text of the graph are the text of no trace; the line of this number, counted from the first line of the graph's text, is the first with which none begins
-pub record HasNoTrace (g : GraphValue) (bytes : List ℕ) (n : ℕ) : Type 0 where
+-- the bytes behind so many lines, those of the text of the graph, are the text of no trace; the line of this number, counted with those lines, is the first with which none begins
+pub record HasNoTrace (g : GraphValue) (lines : ℕ) (bytes : List ℕ) (n : ℕ) : Type 0 where
   pub number : ℕ
   pub is_fault : IsTraceFault g bytes number
   pub no_text : IsNoText g bytes
-  pub counted : n ≡ line_count g + 1 + number
+  pub counted : n ≡ lines + number
 
 -- what this says of a trace of an accepted graph; want of memory says nothing
 abbrev pub TraceFound : GraphValue → List ℕ → Audited → Type 0
@@ -54,14 +53,14 @@ TraceFound g trace (Refused r) = r ≡ NoMemory
 TraceFound g trace (NoTrace n) = ⊥
 TraceFound g trace (Unlawful why) = HasFault g trace why
 
--- what this says of an accepted graph and the bytes behind its text; want of memory says nothing
-abbrev pub TraceSays : GraphValue → List ℕ → Audited → Type 0
-TraceSays g bytes Lawful = (trace : List ℕ) × HasTrace g bytes trace × IsLawful g trace
-TraceSays g bytes (Refused r) = r ≡ NoMemory
-TraceSays g bytes (NoTrace n) = HasNoTrace g bytes n
-TraceSays g bytes (Unlawful why) = (trace : List ℕ) × HasTrace g bytes trace × HasFault g trace why
+-- what this says of an accepted graph and the bytes behind its text, which has so many lines; want of memory says nothing
+abbrev pub TraceSays : GraphValue → ℕ → List ℕ → Audited → Type 0
+TraceSays g lines bytes Lawful = (trace : List ℕ) × HasTrace g bytes trace × IsLawful g trace
+TraceSays g lines bytes (Refused r) = r ≡ NoMemory
+TraceSays g lines bytes (NoTrace n) = HasNoTrace g lines bytes n
+TraceSays g lines bytes (Unlawful why) = (trace : List ℕ) × HasTrace g bytes trace × HasFault g trace why
 
 -- what this says of an input
 abbrev pub AuditSays : List ℕ → Audited → Type 0
 AuditSays bytes (Refused r) = IsCheckRefusal (graph_bytes bytes) r
-AuditSays bytes a = (g : GraphValue) × GraphText (graph_bytes bytes) g × Accepted g × TraceSays g (trace_bytes bytes) a
+AuditSays bytes a = (g : GraphValue) × GraphText (graph_bytes bytes) g × Accepted g × TraceSays g (newlines (graph_bytes bytes)) (trace_bytes bytes) a

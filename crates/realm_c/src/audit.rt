@@ -4,11 +4,10 @@ ghost use Rattle.std.specs.Prelude.{◌≡◌, ◌≢◌, ℕ, ◌+◌, ◌<◌,
 ghost use Rattle.graph_terms.specs.Graph.{GraphValue};
 ghost use Rattle.graph_meaning.specs.Rules.{Accepted};
 ghost use Rattle.graph_meaning.specs.Trace.{IsLawful};
-ghost use Rattle.graph_reader.specs.FirstFault.{line_count};
 ghost use Rattle.graph_words.specs.Text.{GraphText};
-ghost use Rattle.realm_audit.specs.Parts.{graph_bytes, trace_bytes};
+ghost use Rattle.realm_audit.specs.Parts.{newlines, graph_bytes, trace_bytes};
 ghost use Rattle.realm_audit.specs.Reading.{AreLines};
-ghost use Rattle.graph_answers.specs.AuditAnswer.{AUDIT_LIMIT, HasTrace};
+ghost use Rattle.graph_answers.specs.AuditAnswer.{audit_limit, HasTrace};
 ghost use Rattle.realm_c.specs.Audits.{audit_status, audit_verdict, AuditSays, TraceFound, TraceSays};
 ghost use Rattle.c_answers.specs.Numbers.{nothing};
 ghost use Rattle.realm_c.specs.declared.audit.Audited.{Audited as TheAudited};
@@ -16,14 +15,13 @@ ghost use Rattle.realm_c.specs.declared.audit.Audited.{Audited as TheAudited};
 use c_answers::reading::{Refusal, read_checked};
 use c_answers::status::{DONE, TOO_LONG, UNLAWFUL, UNREAD};
 use c_answers::verdict::Verdict;
-use graph_model::graph::Graph;
+use graph_answers::auditing::audit_limit;
 use graph_reader::laws::bytes_have_one_reading;
-use graph_terms::limits::MAX_TEXT;
 use graph_terms::lists::LineList;
 use plain_eval::evaluation::eval;
 use race_check::checked::Checked;
 use realm_audit::reading::text_tells_traces_apart;
-use realm_audit::{AuditRefusal, TraceRefusal, audit, parts, read_trace};
+use realm_audit::{AuditRefusal, TraceRefusal, audit, newlines, parts, read_trace};
 use std::alloc::Global;
 
 /// What was found of the text of a graph with that of a trace behind it.
@@ -41,16 +39,16 @@ pub(crate) enum Audited {
 /// lawful: 0 where they are; 3, 4, 7, 9 or 10, with why. Each other answer than 7 and 9 says what it stands for.
 #[unsafe(no_mangle)]
 pub extern "C" fn realm_audit(alloc: Global, text: &[u8], out: &mut Verdict) -> u32
-    ensures too_long { result ≡ 9 → AUDIT_LIMIT < length text.now }
-    ensures short { result ≢ 9 → length text.now ≤ AUDIT_LIMIT }
+    ensures too_long { result ≡ 9 → audit_limit text.now < length text.now }
+    ensures short { result ≢ 9 → length text.now ≤ audit_limit text.now }
     ensures untold { result ≡ 9 → out.new ≡ nothing }
     ensures audited { result ≢ 9 → (a : TheAudited) × AuditSays text.now a × (result ≡ audit_status a) × (out.new ≡ audit_verdict a) }
-    ensures complete { (g : GraphValue) (trace : List ℕ) → length text.now ≤ AUDIT_LIMIT → GraphText (graph_bytes text.now) g → Accepted g
+    ensures complete { (g : GraphValue) (trace : List ℕ) → length text.now ≤ audit_limit text.now → GraphText (graph_bytes text.now) g → Accepted g
         → HasTrace g (trace_bytes text.now) trace → IsLawful g trace → (result ≡ 0) ⊎ (result ≡ 7) }
 {
     bytes_have_one_reading();
     text_tells_traces_apart();
-    if text.len() as u64 > 2 * MAX_TEXT {
+    if text.len() as u64 > audit_limit(text) {
         *out = Verdict::nothing();
         return TOO_LONG;
     }
@@ -85,35 +83,34 @@ impl Audited {
 }
 
 fn audit_text(alloc: Global, text: &[u8]) -> Audited
-    requires short { length text.now ≤ AUDIT_LIMIT }
+    requires short { length text.now ≤ audit_limit text.now }
     ensures says { AuditSays text.now result }
 {
+    let _ = audit_limit(text);
     let (front, back) = parts(text);
     match read_checked(alloc, front) {
-        Ok(checked) => audit_behind(alloc, &checked, back),
+        Ok(checked) => audit_behind(alloc, &checked, newlines(front), back),
         Err(refusal) => Audited::Refused(refusal),
     }
 }
 
-/// Reads a trace behind an accepted graph, and judges it.
-fn audit_behind(alloc: Global, checked: &Checked, back: &[u8]) -> Audited
+/// Reads a trace behind an accepted graph, whose text has so many lines, and judges it.
+fn audit_behind(alloc: Global, checked: &Checked, lines: u32, back: &[u8]) -> Audited
     requires short { length back.now < 2 ^ 32 }
-    ensures says { TraceSays checked.now.graph back.now result }
+    ensures says { TraceSays checked.now.graph lines back.now result }
 {
-    let graph = checked.graph();
-    match read_trace(alloc, graph, back) {
+    match read_trace(alloc, checked.graph(), back) {
         Ok(trace) => audit_trace(alloc, checked, &trace),
-        Err(TraceRefusal::Line(number)) => Audited::NoTrace(number_behind(graph, number)),
+        Err(TraceRefusal::Line(number)) => Audited::NoTrace(number_behind(lines, number)),
         Err(TraceRefusal::NoMemory) => Audited::Refused(Refusal::NoMemory),
     }
 }
 
-/// The number of a line behind the text of a graph, counted with the lines of that text.
-fn number_behind(graph: &Graph, number: u32) -> u64
-    ensures { result ≡ line_count graph.now + 1 + number }
+/// The number of a line behind so many lines, counted with them.
+fn number_behind(lines: u32, number: u32) -> u64
+    ensures { result ≡ lines + number }
 {
-    // the lines of the text that are no items are its first and its last
-    u64::from(graph.decls()) + u64::from(graph.lines()) + 2 + u64::from(number)
+    u64::from(lines) + u64::from(number)
 }
 
 /// Evaluates a graph, and judges a trace of it.

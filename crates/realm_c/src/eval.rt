@@ -3,6 +3,7 @@
 ghost use Rattle.std.specs.Prelude.{◌≡◌, ◌≢◌, ◌<◌, ◌≤◌, ◌⊎◌, length, IfSome};
 ghost use Rattle.graph_terms.specs.Graph.{GraphValue};
 ghost use Rattle.graph_meaning.specs.Rules.{Accepted};
+ghost use Rattle.graph_words.specs.Limits.{text_limit};
 ghost use Rattle.graph_words.specs.Text.{GraphText};
 ghost use Rattle.graph_answers.specs.Answer.{EndsByPaths};
 ghost use Rattle.run_report.specs.Report.{evaluation_report};
@@ -15,7 +16,7 @@ use c_answers::reading::read_checked;
 use c_answers::status::{NO_MEMORY, TOO_LONG};
 use c_answers::texts::report_text;
 use graph_meaning::laws::{cancelled_where_unbroken, waits_where_reached};
-use graph_terms::limits::MAX_TEXT;
+use graph_words::limits::text_limit;
 use plain_eval::evaluation::eval;
 use race_check::checked::Checked;
 use std::alloc::Global;
@@ -26,11 +27,11 @@ use std::alloc::Global;
 pub extern "C" fn realm_eval(alloc: Global, text: &[u8], out: &mut [u8], written: &mut u64) -> u32
     ensures done { result ≡ 0 → (g : GraphValue) × GraphText text.now g × Accepted g × Holds (evaluation_report g) out.old out.new written.new }
     ensures cut { result ≡ 6 → (g : GraphValue) × GraphText text.now g × Accepted g × IsCut (evaluation_report g) out.old out.new written.new }
-    ensures too_long { result ≡ 9 → MAX_TEXT < length text.now }
-    ensures short { result ≢ 9 → length text.now ≤ MAX_TEXT }
+    ensures too_long { result ≡ 9 → text_limit text.now < length text.now }
+    ensures short { result ≢ 9 → length text.now ≤ text_limit text.now }
     ensures refused { result ≢ 0 → result ≢ 6 → result ≢ 9 → (r : TheRefusal) × IsCheckRefusal text.now r × (result ≡ status_of r) }
     ensures untouched { result ≢ 0 → result ≢ 6 → (out.new ≡ out.old) × (written.new ≡ 0) }
-    ensures complete { (g : GraphValue) → length text.now ≤ MAX_TEXT → GraphText text.now g → Accepted g → (result ≡ 0) ⊎ ((result ≡ 6) ⊎ (result ≡ 7)) }
+    ensures complete { (g : GraphValue) → length text.now ≤ text_limit text.now → GraphText text.now g → Accepted g → (result ≡ 0) ⊎ ((result ≡ 6) ⊎ (result ≡ 7)) }
 
     // A line waits exactly where one that never comes reaches it, and a line is cancelled exactly where an unbroken path
     // from a fault reaches it.
@@ -38,7 +39,7 @@ pub extern "C" fn realm_eval(alloc: Global, text: &[u8], out: &mut [u8], written
 {
     ends_by_paths(text);
     *written = 0;
-    if text.len() as u64 > MAX_TEXT {
+    if text.len() as u64 > text_limit(text) {
         return TOO_LONG;
     }
     let checked = match read_checked(alloc, text) {

@@ -3,6 +3,7 @@
 ghost use Rattle.std.specs.Prelude.{◌≡◌, ◌≢◌, ℕ, ◌<◌, ◌≤◌, ◌⊎◌, List, length, true, false, IfSome};
 ghost use Rattle.graph_terms.specs.Graph.{GraphValue};
 ghost use Rattle.graph_meaning.specs.Rules.{Accepted};
+ghost use Rattle.graph_words.specs.Limits.{text_limit};
 ghost use Rattle.graph_words.specs.Text.{GraphText};
 ghost use Rattle.graph_answers.specs.Answer.{IsTimelineText};
 ghost use Rattle.c_answers.specs.Buffers.{Holds, IsCut};
@@ -13,7 +14,7 @@ use c_answers::buffer::hand_out;
 use c_answers::reading::read_checked;
 use c_answers::status::{NO_MEMORY, TOO_LONG, USAGE};
 use c_answers::texts::plan_text;
-use graph_terms::limits::MAX_TEXT;
+use graph_words::limits::text_limit;
 use std::alloc::Global;
 
 /// Reads a graph from its text, plans it on so many processors, and puts the text of the plan with its certificate into
@@ -33,18 +34,18 @@ pub extern "C" fn realm_plan(
         × (plan : List ℕ) × IsTimelineText processors g plan × IsCut plan out.old out.new written.new }
     ensures usage { result ≡ 2 → (1 ≤ processors) × (processors ≤ 8) → ⊥ }
     ensures few { result ≢ 2 → (1 ≤ processors) × (processors ≤ 8) }
-    ensures too_long { result ≡ 9 → MAX_TEXT < length text.now }
-    ensures short { result ≢ 9 → result ≢ 2 → length text.now ≤ MAX_TEXT }
+    ensures too_long { result ≡ 9 → text_limit text.now < length text.now }
+    ensures short { result ≢ 9 → result ≢ 2 → length text.now ≤ text_limit text.now }
     ensures refused { result ≢ 0 → result ≢ 2 → result ≢ 6 → result ≢ 9 → (r : TheRefusal) × IsCheckRefusal text.now r × (result ≡ status_of r) }
     ensures untouched { result ≢ 0 → result ≢ 6 → (out.new ≡ out.old) × (written.new ≡ 0) }
-    ensures complete { (g : GraphValue) → length text.now ≤ MAX_TEXT → GraphText text.now g → Accepted g
+    ensures complete { (g : GraphValue) → length text.now ≤ text_limit text.now → GraphText text.now g → Accepted g
         → (result ≡ 0) ⊎ ((result ≡ 2) ⊎ ((result ≡ 6) ⊎ (result ≡ 7))) }
 {
     *written = 0;
     if !are_processors(processors) {
         return USAGE;
     }
-    if text.len() as u64 > MAX_TEXT {
+    if text.len() as u64 > text_limit(text) {
         return TOO_LONG;
     }
     let checked = match read_checked(alloc, text) {

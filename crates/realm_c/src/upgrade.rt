@@ -3,6 +3,7 @@
 ghost use Rattle.std.specs.Prelude.{◌≡◌, ◌≢◌, ◌<◌, ◌≤◌, ◌⊎◌, length, IfSome};
 ghost use Rattle.graph_terms.specs.Graph.{GraphValue, written_in, upgraded};
 ghost use Rattle.graph_terms.specs.declared.format.Format.TheVariants.{Three};
+ghost use Rattle.graph_words.specs.Limits.{text_limit};
 ghost use Rattle.graph_words.specs.Text.{GraphText, text as text_of};
 ghost use Rattle.graph_answers.specs.UpgradeAnswer.{upgrade_of};
 ghost use Rattle.c_answers.specs.Buffers.{Holds, IsCut};
@@ -14,7 +15,7 @@ use c_answers::reading::read;
 use c_answers::status::{NO_MEMORY, TOO_LONG, USAGE};
 use c_answers::texts::graph_text;
 use graph_answers::upgrading::upgraded;
-use graph_terms::limits::MAX_TEXT;
+use graph_words::limits::text_limit;
 use std::alloc::Global;
 
 /// Reads a graph from its text, and puts its text in format 2, or in format 3 where it has that, into `out` with its
@@ -29,11 +30,11 @@ pub extern "C" fn realm_upgrade(
 ) -> u32
     ensures done { result ≡ 0 → (g : GraphValue) × GraphText text.now g × Holds (text_of (upgraded g)) out.old out.new written.new }
     ensures cut { result ≡ 6 → (g : GraphValue) × GraphText text.now g × IsCut (text_of (upgraded g)) out.old out.new written.new }
-    ensures too_long { result ≡ 9 → MAX_TEXT < length text.now }
-    ensures short { result ≢ 9 → length text.now ≤ MAX_TEXT }
+    ensures too_long { result ≡ 9 → text_limit text.now < length text.now }
+    ensures short { result ≢ 9 → length text.now ≤ text_limit text.now }
     ensures refused { result ≢ 0 → result ≢ 6 → result ≢ 9 → (r : TheRefusal) × IsReadRefusal text.now r × (result ≡ status_of r) }
     ensures untouched { result ≢ 0 → result ≢ 6 → (out.new ≡ out.old) × (written.new ≡ 0) }
-    ensures complete { (g : GraphValue) → length text.now ≤ MAX_TEXT → GraphText text.now g → (result ≡ 0) ⊎ ((result ≡ 6) ⊎ (result ≡ 7)) }
+    ensures complete { (g : GraphValue) → length text.now ≤ text_limit text.now → GraphText text.now g → (result ≡ 0) ⊎ ((result ≡ 6) ⊎ (result ≡ 7)) }
 {
     hand_out_later(alloc, text, false, out, written)
 }
@@ -51,11 +52,11 @@ pub extern "C" fn realm_upgrade_to(
     ensures cut { result ≡ 6 → (g : GraphValue) × GraphText text.now g × IsCut (text_of (written_in Three g)) out.old out.new written.new }
     ensures usage { result ≡ 2 → format ≢ 3 }
     ensures format { result ≢ 2 → format ≡ 3 }
-    ensures too_long { result ≡ 9 → MAX_TEXT < length text.now }
-    ensures short { result ≢ 9 → result ≢ 2 → length text.now ≤ MAX_TEXT }
+    ensures too_long { result ≡ 9 → text_limit text.now < length text.now }
+    ensures short { result ≢ 9 → result ≢ 2 → length text.now ≤ text_limit text.now }
     ensures refused { result ≢ 0 → result ≢ 2 → result ≢ 6 → result ≢ 9 → (r : TheRefusal) × IsReadRefusal text.now r × (result ≡ status_of r) }
     ensures untouched { result ≢ 0 → result ≢ 6 → (out.new ≡ out.old) × (written.new ≡ 0) }
-    ensures complete { (g : GraphValue) → length text.now ≤ MAX_TEXT → GraphText text.now g → (result ≡ 0) ⊎ ((result ≡ 2) ⊎ ((result ≡ 6) ⊎ (result ≡ 7))) }
+    ensures complete { (g : GraphValue) → length text.now ≤ text_limit text.now → GraphText text.now g → (result ≡ 0) ⊎ ((result ≡ 2) ⊎ ((result ≡ 6) ⊎ (result ≡ 7))) }
 {
     if format != 3 {
         *written = 0;
@@ -74,15 +75,15 @@ fn hand_out_later(
 ) -> u32
     ensures done { result ≡ 0 → (g : GraphValue) × GraphText text.now g × Holds (text_of (upgrade_of to_three g)) out.old out.new written.new }
     ensures cut { result ≡ 6 → (g : GraphValue) × GraphText text.now g × IsCut (text_of (upgrade_of to_three g)) out.old out.new written.new }
-    ensures too_long { result ≡ 9 → MAX_TEXT < length text.now }
-    ensures short { result ≢ 9 → length text.now ≤ MAX_TEXT }
+    ensures too_long { result ≡ 9 → text_limit text.now < length text.now }
+    ensures short { result ≢ 9 → length text.now ≤ text_limit text.now }
     ensures no_usage { result ≢ 2 }
     ensures refused { result ≢ 0 → result ≢ 6 → result ≢ 9 → (r : TheRefusal) × IsReadRefusal text.now r × (result ≡ status_of r) }
     ensures untouched { result ≢ 0 → result ≢ 6 → (out.new ≡ out.old) × (written.new ≡ 0) }
-    ensures complete { (g : GraphValue) → length text.now ≤ MAX_TEXT → GraphText text.now g → (result ≡ 0) ⊎ ((result ≡ 6) ⊎ (result ≡ 7)) }
+    ensures complete { (g : GraphValue) → length text.now ≤ text_limit text.now → GraphText text.now g → (result ≡ 0) ⊎ ((result ≡ 6) ⊎ (result ≡ 7)) }
 {
     *written = 0;
-    if text.len() as u64 > MAX_TEXT {
+    if text.len() as u64 > text_limit(text) {
         return TOO_LONG;
     }
     let graph = match read(alloc, text) {

@@ -6,6 +6,7 @@ ghost use Rattle.realm_flow.specs.Message.{has_message};
 
 use flow_top::serve_flow;
 use flow_top::status::FlowStatus;
+use graph_terms::format::Format;
 use realm_io::{StdSink, StdSource};
 use std::env::{self, Env};
 use std::io::{self, BufWriter};
@@ -37,8 +38,57 @@ enum WordsFault {
     NoMemory,
 }
 
-/// Whether sums commute, by the words of the command line.
-fn asks_to_commute<R: Env + AllocGlobal>(rt: &R) -> Result<bool, WordsFault> {
+/// What the words so far ask for.
+#[derive(Clone, Copy)]
+struct Asked {
+    /// Whether sums commute.
+    commute: bool,
+    /// Whether the graph is of format 3, and otherwise of format 1.
+    three: bool,
+    /// Whether the last word was `--format`, so that its number comes next.
+    number: bool,
+}
+
+impl Asked {
+    /// What the words so far and the next one ask for. `None` where the program takes no such word there.
+    fn and(self, word: &str) -> Option<Asked> {
+        let Asked {
+            commute,
+            three,
+            number,
+        } = self;
+        match (number, word) {
+            (true, "3") => Some(Asked {
+                commute,
+                three: true,
+                number: false,
+            }),
+            (false, "--commute") if !commute => Some(Asked {
+                commute: true,
+                three,
+                number,
+            }),
+            (false, "--format") if !three => Some(Asked {
+                commute,
+                three,
+                number: true,
+            }),
+            _ => None,
+        }
+    }
+
+    /// The format of the graph.
+    fn format(self) -> Format {
+        if self.three {
+            Format::Three
+        } else {
+            Format::One
+        }
+    }
+}
+
+/// What the words of the command line ask for.
+fn asked_by_words<R: Env + AllocGlobal>(rt: &R) -> Result<Asked, WordsFault> {
     let args = match env::args(rt) {
         Ok(args) => args,
         Err(error) if error.kind() == io::ErrorKind::OutOfMemory => {
@@ -46,33 +96,48 @@ fn asks_to_commute<R: Env + AllocGlobal>(rt: &R) -> Result<bool, WordsFault> {
         }
         Err(_) => return Err(WordsFault::Usage),
     };
-    let mut commute = false;
+    let mut asked = Asked {
+        commute: false,
+        three: false,
+        number: false,
+    };
     for (i, word) in args.enumerate() {
-        match (i, word.as_str()) {
-            (0, _) => {}
-            (1, "--commute") => commute = true,
-            _ => return Err(WordsFault::Usage),
+        if i == 0 {
+            continue;
+        }
+        match asked.and(word.as_str()) {
+            Some(more) => asked = more,
+            None => return Err(WordsFault::Usage),
         }
     }
-    Ok(commute)
+    if asked.number {
+        return Err(WordsFault::Usage);
+    }
+    Ok(asked)
 }
 
 /// Reads a flow and writes its graph, over the standard streams.
-fn run<R: AllocGlobal + Input + Print>(rt: &R, commute: bool) -> FlowStatus {
+fn run<R: AllocGlobal + Input + Print>(rt: &R, asked: Asked) -> FlowStatus {
     let Ok(writer) = BufWriter::with_capacity(rt.alloc(), GATHERED, io::writer(rt)) else {
         return FlowStatus::NoMemory;
     };
     let mut source = StdSource::new(rt.reader());
     let mut sink = StdSink::new(writer);
-    serve_flow(rt.alloc(), &mut source, &mut sink, commute)
+    serve_flow(
+        rt.alloc(),
+        &mut source,
+        &mut sink,
+        asked.commute,
+        asked.format(),
+    )
 }
 
 fn main(rt: HostRuntime) -> ExitCode {
-    let status = match asks_to_commute(&rt) {
-        Ok(commute) => run(&rt, commute),
+    let status = match asked_by_words(&rt) {
+        Ok(asked) => run(&rt, asked),
         Err(WordsFault::NoMemory) => FlowStatus::NoMemory,
         Err(WordsFault::Usage) => {
-            let _ = rt.eprintln("usage: realm-flow [--commute] < FLOW");
+            let _ = rt.eprintln("usage: realm-flow [--commute] [--format 3] < FLOW");
             return ExitCode::from(USAGE);
         }
     };

@@ -1,3 +1,4 @@
 pub mod ToldFacts
 pub mod WrittenLaws
+pub mod LimitFacts
 pub mod Public

@@ -1,5 +1,6 @@
 pub mod Counts
 pub mod Told
+pub mod Limit
 pub mod Memory
 pub mod TextSinks
 pub mod SinkState

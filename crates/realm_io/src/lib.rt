@@ -21,7 +21,7 @@ pub use gates::{Gate, OpenGate};
 pub use hints::Hints;
 pub use memory_sink::MemorySink;
 pub use memory_source::MemorySource;
-pub use reading::{ReadEnd, read_all};
+pub use reading::{PIECE, ReadEnd, read_all, read_by_start};
 pub use sinks::Sink;
 pub use sources::{Failed, Source};
 pub use sure::{SureSink, SureSource};

@@ -2,6 +2,7 @@
 use Rattle.std.specs.Prelude.{◌≡◌, ◌≢◌, ℕ, ◌⊎◌, ◌<◌, Option, Some, None, [], length, max, cond, ◌==◌}
 use Rattle.std.specs.Arc.{arc_value}
 use Rattle.graph_terms.specs.Graph.{GraphValue}
+use Rattle.event_table.specs.declared.limits.TheConstants.{MAX_SLOTS}
 use Rattle.run_core.specs.Core.{CoreValue, IsCore, slots_given}
 use Rattle.run_core.specs.Counts.{lines_at, lines_left}
 use Rattle.run_core.specs.Finishing.{NothingOut}
@@ -109,6 +110,10 @@ MayReport _ g = ⊥
 -- how many slots a run has: those that are asked for, and where 0 are the greater of 256 and the need
 abbrev pub slots_for : ℕ → ℕ → ℕ
 slots_for asked need = cond (asked == 0) (max need DEFAULT_SLOTS) asked
+
+-- how many it may have at most: those that are asked for, and where 0 are the most that a table has
+abbrev pub most_slots : ℕ → ℕ
+most_slots asked = cond (asked == 0) MAX_SLOTS asked
 
 -- how many lines of a run have come how far
 abbrev pub lines_of : CoreValue → Lines

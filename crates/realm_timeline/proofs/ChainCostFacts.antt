@@ -556,6 +556,6 @@ option_read (x ∷ xs) zero o e h = sym e
 option_read (x ∷ xs) (suc i) o e h = option_read xs i o e (omega arith)
 
 -- a cost fits a word
-pub best_fits : (costs : List ℕ) (es : List Edge) (best : Option (ℕ × ℕ)) (c : ℕ) → ((i : ℕ) → chain_cost_at costs i ≤ 281474976710656) → IsBestOf (chain_cost_at costs) es best → c ≤ 17179869184 → MatchOption best (c < 18446744073709551616) (λ b. b.1 + c < 18446744073709551616)
+pub best_fits : (costs : List ℕ) (es : List Edge) (best : Option (ℕ × ℕ)) (c : ℕ) → ((i : ℕ) → chain_cost_at costs i ≤ 1125899906842624) → IsBestOf (chain_cost_at costs) es best → c ≤ 17179869184 → MatchOption best (c < 18446744073709551616) (λ b. b.1 + c < 18446744073709551616)
 best_fits costs es None c few best small = omega arith
-best_fits costs es (Some b) c few best small = let f : chain_cost_at costs b.0 ≤ 281474976710656 = few b.0 in let e : chain_cost_at costs b.0 ≡ b.1 = best.cost in omega arith
+best_fits costs es (Some b) c few best small = let f : chain_cost_at costs b.0 ≤ 1125899906842624 = few b.0 in let e : chain_cost_at costs b.0 ≡ b.1 = best.cost in omega arith

@@ -18,15 +18,15 @@ use Rattle.realm_timeline.specs.Plan.{access_size, cost}
 -- the cost after k accesses
 pub record CostUpTo (g : GraphValue) (i k c : ℕ) : Type 0 where
   pub cost : c ≡ 1 + sum_by (access_size g) (take k (accesses g i))
-  pub few : c ≤ 1 + 1048576 * k
+  pub few : c ≤ 1 + 4294967296 * k
 
-pub cost_more : (g : GraphValue) (i k c n : ℕ) (a : Access) → CostUpTo g i k c → slice_get (accesses g i) k ≡ Some a → n ≡ access_size g a → n ≤ 1048576 → CostUpTo g i (k + 1) (c + n)
+pub cost_more : (g : GraphValue) (i k c n : ℕ) (a : Access) → CostUpTo g i k c → slice_get (accesses g i) k ≡ Some a → n ≡ access_size g a → n ≤ 4294967296 → CostUpTo g i (k + 1) (c + n)
 cost_more g i k c n a up at is few =
     let inside : k < length (accesses g i) = slice_get_within (accesses g i) k a at in
     let more = take_more (accesses g i) k a inside ∙ ap (λ x. take k (accesses g i) ++ x ∷ []) (get_or_from_slice_get (accesses g i) k a a at) in
     let sum : sum_by (access_size g) (take (k + 1) (accesses g i)) ≡ sum_by (access_size g) (take k (accesses g i)) + access_size g a = ap (sum_by (access_size g)) more ∙ sum_by_push (access_size g) (take k (accesses g i)) a in
     let up_to_now : c ≡ 1 + sum_by (access_size g) (take k (accesses g i)) = up.cost in
-    let bound : c ≤ 1 + 1048576 * k = up.few in
+    let bound : c ≤ 1 + 4294967296 * k = up.few in
     record { cost = omega arith; few = omega arith }
 
 pub cost_whole : (g : GraphValue) (i k c : ℕ) → CostUpTo g i k c → length (accesses g i) ≤ k → c ≡ cost g i

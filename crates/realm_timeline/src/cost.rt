@@ -9,7 +9,7 @@ ghost use Rattle.graph_terms.specs.Reservations.{Releases};
 
 use graph_meaning::line_laws::{accesses_are_few, accesses_fit};
 use graph_model::graph::Graph;
-use graph_terms::limits::MOST_ACCESSES;
+use graph_terms::limits::{MAX_LOCKS_OF_THREE, MOST_ACCESSES};
 use graph_terms::verb::Verb;
 
 /// How long a line takes in virtual time: 1, and 1 more for each point of each access.
@@ -26,7 +26,7 @@ pub(crate) fn cost_of(graph: &Graph, line: u32) -> u64
         let Some(access) = graph.access(line, k) else {
             return cost;
         };
-        cost += u64::from(graph.space(access.space).size());
+        cost += graph.space(access.space).size();
     }
     cost
 }
@@ -53,7 +53,7 @@ pub(crate) fn queue_of(graph: &Graph, line: u32) -> u32
 
 /// The number of the queue of the acquires of a reservation that are not shared.
 pub(crate) fn exclusive_queue(lock: u32) -> u32
-    requires { lock < 64 }
+    requires { lock < MAX_LOCKS_OF_THREE }
     ensures { result ≡ exclusive_queue lock }
 {
     2 * lock + 1
@@ -61,7 +61,7 @@ pub(crate) fn exclusive_queue(lock: u32) -> u32
 
 /// The number of the queue of those that are shared.
 pub(crate) fn shared_queue(lock: u32) -> u32
-    requires { lock < 64 }
+    requires { lock < MAX_LOCKS_OF_THREE }
     ensures { result ≡ shared_queue lock }
 {
     2 * lock + 2

@@ -20,6 +20,7 @@ use crate::queue::{Queue, insert_at, lowest_of, take_at};
 use crate::slot::Slot;
 use graph_meaning::laws::edges_between_lines;
 use graph_model::graph::Graph;
+use graph_terms::limits::MAX_LOCKS_OF_THREE;
 use index_spaces::NoMemory;
 use index_spaces::room::{filled, push};
 use std::alloc::Global;
@@ -117,7 +118,7 @@ impl Simulation {
     /// lowest that runs no line. None where no line may start now.
     fn next_start(&self) -> Option<(u32, u32)>
         requires few { length self.now.running.items ≤ 8 }
-        requires queues { length self.now.queues.items ≤ 129 }
+        requires queues { length self.now.queues.items ≤ 2 * MAX_LOCKS_OF_THREE + 1 }
         ensures { MatchOption result (AllBusy self.now.running.items ⊎ AllHeldOrEmpty self.now.queues.items)
             (λ x. IsLowestPlace self.now.queues.items x.0 × IsFirstIdle self.now.running.items x.1) }
     {

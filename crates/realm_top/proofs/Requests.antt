@@ -5,10 +5,13 @@ use Rattle.std.proofs.lemmas.Bool.{true≢false, false≢true}
 use Rattle.std.specs.Io.KnownBytes.{Consumes, IsAtEnd}
 use Rattle.realm_io.specs.SinkState.{SinkState}
 use Rattle.realm_io.specs.Counts.{Rose}
+use Rattle.command_line.specs.declared.request.Action.{Action}
+use Rattle.command_line.specs.declared.request.Action.TheVariants.{Run, Check, Eval, Make, Audit, Timeline, Upgrade, Session}
 use Rattle.command_line.specs.declared.request.Request.{Request}
 use Rattle.graph_terms.specs.Graph.{GraphValue}
 use Rattle.graph_meaning.specs.Laws.{OneNeed}
 use Rattle.graph_reader.specs.Laws.{OneReading}
+use Rattle.graph_words.specs.Limits.{text_limit}
 use Rattle.graph_words.specs.Text.{GraphText}
 use Rattle.graph_gen.specs.MadeGraph.{made_graph}
 use Rattle.realm_audit.specs.Parts.{graph_bytes}
@@ -22,12 +25,12 @@ use Rattle.graph_answers.specs.declared.status.Status.TheVariants.{Done, ReadFau
 use Rattle.graph_answers.specs.Status.{is_refusal}
 use Rattle.program_io.specs.Delivered.{too_long_text, Delivered, BrokenOff}
 use Rattle.graph_answers.specs.Delivered.{Delivers, IsAnswered}
-use Rattle.graph_answers.specs.AuditAnswer.{AuditAnswers, IsAudited}
+use Rattle.graph_answers.specs.AuditAnswer.{audit_limit, AuditAnswers, IsAudited}
 use Rattle.realm_top.specs.Answer.{Purpose, Checking, Auditing, Upgrading, InSession, Making, purpose, is_checking, is_auditing, is_upgrading, is_in_session, is_reading, limit_for, reads, checks, audits, upgrades, runs_session, input_limit, MadeAnswers, IsInputFor, IsInput, AnswersFor, Answers, AsksFor, AsksStatus, Answered, AnsweredBy}
 use Rattle.realm_top.specs.Laws.{AnswersAreOne, PathsTellEnds}
-use Rattle.graph_answers.specs.Answer.{made_says, EndsByPaths, InputAnswers, IsDone}
+use Rattle.graph_answers.specs.Answer.{most_slots, made_says, EndsByPaths, InputAnswers, IsDone}
 use Rattle.graph_answers.specs.UpgradeAnswer.{UpgradeAnswers, IsUpgraded}
-use Rattle.realm_top.specs.SessionAnswer.{session_slots, SessionAnswers, IsSessionDone}
+use Rattle.realm_top.specs.SessionAnswer.{SessionAnswers, IsSessionDone}
 use Rattle.graph_answers.proofs.UpgradeAnswers.{one_upgrade}
 use Rattle.realm_top.proofs.SessionAnswers.{one_session}
 use Rattle.program_io.proofs.Public.{all_read, answered_as, cut_off_as, complete_as, answered_by}
@@ -60,11 +63,11 @@ pub answers_upgrade : (w : Purpose) (request : Request) (bytes : List ℕ) → i
 answers_upgrade Upgrading request bytes y status out a = a
 answers_upgrade w request bytes y status out a = absurd (false≢true y)
 
-session_answers : (w : Purpose) (request : Request) (bytes : List ℕ) → is_in_session w ≡ true → (status : Status) (out : List ℕ) → AnswersFor w request bytes status out → SessionAnswers (session_slots request.slots) bytes status out
+session_answers : (w : Purpose) (request : Request) (bytes : List ℕ) → is_in_session w ≡ true → (status : Status) (out : List ℕ) → AnswersFor w request bytes status out → SessionAnswers (most_slots request.slots) bytes status out
 session_answers InSession request bytes y status out a = a
 session_answers w request bytes y status out a = absurd (false≢true y)
 
-pub answers_session : (w : Purpose) (request : Request) (bytes : List ℕ) → is_in_session w ≡ true → (status : Status) (out : List ℕ) → SessionAnswers (session_slots request.slots) bytes status out → AnswersFor w request bytes status out
+pub answers_session : (w : Purpose) (request : Request) (bytes : List ℕ) → is_in_session w ≡ true → (status : Status) (out : List ℕ) → SessionAnswers (most_slots request.slots) bytes status out → AnswersFor w request bytes status out
 answers_session InSession request bytes y status out a = a
 answers_session w request bytes y status out a = absurd (false≢true y)
 
@@ -108,21 +111,32 @@ told Making left bytes r h = absurd (false≢true r)
 told w left bytes r h = h
 
 -- and how much of it at most
-pub limit_checked : (w : Purpose) → is_checking w ≡ true → limit_for w ≡ 1048576
-limit_checked Checking y = refl
-limit_checked w y = absurd (false≢true y)
+pub limit_checked : (w : Purpose) (bytes : List ℕ) → is_checking w ≡ true → limit_for w bytes ≡ text_limit bytes
+limit_checked Checking bytes y = refl
+limit_checked w bytes y = absurd (false≢true y)
 
-pub limit_audit : (w : Purpose) → is_auditing w ≡ true → limit_for w ≡ 2097152
-limit_audit Auditing y = refl
-limit_audit w y = absurd (false≢true y)
+pub limit_audit : (w : Purpose) (bytes : List ℕ) → is_auditing w ≡ true → limit_for w bytes ≡ audit_limit bytes
+limit_audit Auditing bytes y = refl
+limit_audit w bytes y = absurd (false≢true y)
 
-pub limit_upgrade : (w : Purpose) → is_upgrading w ≡ true → limit_for w ≡ 1048576
-limit_upgrade Upgrading y = refl
-limit_upgrade w y = absurd (false≢true y)
+pub limit_upgrade : (w : Purpose) (bytes : List ℕ) → is_upgrading w ≡ true → limit_for w bytes ≡ text_limit bytes
+limit_upgrade Upgrading bytes y = refl
+limit_upgrade w bytes y = absurd (false≢true y)
 
-pub limit_session : (w : Purpose) → is_in_session w ≡ true → limit_for w ≡ 1048576
-limit_session InSession y = refl
-limit_session w y = absurd (false≢true y)
+pub limit_session : (w : Purpose) (bytes : List ℕ) → is_in_session w ≡ true → limit_for w bytes ≡ 1048576
+limit_session InSession bytes y = refl
+limit_session w bytes y = absurd (false≢true y)
+
+-- an input that is no session and has no trace behind it is as long as a text of a graph
+pub limit_else : (action : Action) (bytes : List ℕ) → action ≢ Audit → action ≢ Session → input_limit action bytes ≡ text_limit bytes
+limit_else Audit bytes a s = absurd (a refl)
+limit_else Session bytes a s = absurd (s refl)
+limit_else Run bytes a s = refl
+limit_else Check bytes a s = refl
+limit_else Eval bytes a s = refl
+limit_else Timeline bytes a s = refl
+limit_else Upgrade bytes a s = refl
+limit_else Make bytes a s = refl
 
 -- what is made is none of these
 pub made_else : (w : Purpose) → is_reading w ≡ false → (is_auditing w ≡ false) × (is_upgrading w ≡ false) × (is_in_session w ≡ false)
@@ -137,7 +151,7 @@ checked_else Upgrading r a u s = absurd (true≢false u)
 checked_else InSession r a u s = absurd (true≢false s)
 checked_else Making r a u s = absurd (false≢true r)
 
-long_by : (w : Purpose) (request : Request) (bytes : List ℕ) → is_reading w ≡ true → limit_for w < length bytes → AnswersFor w request bytes TooLong too_long_text
+long_by : (w : Purpose) (request : Request) (bytes : List ℕ) → is_reading w ≡ true → limit_for w bytes < length bytes → AnswersFor w request bytes TooLong too_long_text
 long_by Making request bytes r l = absurd (false≢true r)
 long_by w request bytes r l = (l, refl)
 
@@ -155,7 +169,7 @@ module _ (needs : OneNeed) (one : (xs : List ℕ) → OneReading xs) (tells : Te
   one_by Checking request bytes s t out a b = one_answer request needs bytes (one bytes) s t out a b
   one_by Auditing request bytes s t out a b = one_audit tells bytes (one (graph_bytes bytes)) s t out a b
   one_by Upgrading request bytes s t out a b = one_upgrade request.to_three bytes (one bytes) s t out a b
-  one_by InSession request bytes s t out a b = one_session (session_slots request.slots) bytes (sessions bytes) (ends (session_slots request.slots)) s t out a b
+  one_by InSession request bytes s t out a b = one_session (most_slots request.slots) bytes (sessions bytes) (ends (most_slots request.slots)) s t out a b
   one_by Making request bytes s t out a b = made_one request.text request (made_graph request.seed request.size) needs s t out a b
 
 -- A REQUEST THAT WAS ANSWERED by its input, where no read failed: what was answered by the status
@@ -207,8 +221,8 @@ module _ (request : Request) (left : Option (List ℕ)) (s t : SinkState) (resul
       let a = (upgrade_answers aim request xs y Done d.0 d.1).1 in
       record { graph = a.0; text_is = a.1; delivered = subst (Delivered s t) a.2 d.2 })
 
-  pub request_session : runs_session request.action ≡ true → result ≡ Done → IfSome left (λ xs. IsSessionDone (session_slots request.slots) xs s t)
-  request_session y e = if_some left (λ xs. IsSessionDone (session_slots request.slots) xs s t) (λ xs h.
+  pub request_session : runs_session request.action ≡ true → result ≡ Done → IfSome left (λ xs. IsSessionDone (most_slots request.slots) xs s t)
+  request_session y e = if_some left (λ xs. IsSessionDone (most_slots request.slots) xs s t) (λ xs h.
       let d = done_with xs (session_reads aim y) h e in
       let a = session_answers aim request xs y Done d.0 d.1 in
       record { entries = a.0; text = a.1; ran = a.2.0; delivered = subst (Delivered s t) a.2.1 d.2 })
@@ -226,7 +240,7 @@ read_answered request old new bs b s t result c e same a xs h = subst (λ x. Ans
 pub answered_input : (request : Request) → reads request.action ≡ true → (old new : Option (List ℕ)) (bs b : List ℕ) (s t : SinkState) (result : Status) → Consumes old new bs → IsAtEnd new → b ≡ bs → Answered request b s t result → AnsweredBy request old s t result
 answered_input request r old new bs b s t result c e same a xs i = read_answered request old new bs b s t result c e same a xs (told (purpose request.action) old xs r i)
 
-pub answered_long : (request : Request) → reads request.action ≡ true → (old : Option (List ℕ)) (s t : SinkState) (result : Status) → ((xs : List ℕ) → old ≡ Some xs → input_limit request.action < length xs) → Delivers s t TooLong result too_long_text → AnsweredBy request old s t result
+pub answered_long : (request : Request) → reads request.action ≡ true → (old : Option (List ℕ)) (s t : SinkState) (result : Status) → ((xs : List ℕ) → old ≡ Some xs → input_limit request.action xs < length xs) → Delivers s t TooLong result too_long_text → AnsweredBy request old s t result
 answered_long request r old s t result long d xs i = inr (TooLong, too_long_text, long_by (purpose request.action) request xs r (long xs (told (purpose request.action) old xs r i)), d)
 
 pub answered_made : (request : Request) → reads request.action ≡ false → (old : Option (List ℕ)) (s t : SinkState) (result : Status) → IsAnswered (MadeAnswers request.text request (made_graph request.seed request.size)) s t result → AnsweredBy request old s t result

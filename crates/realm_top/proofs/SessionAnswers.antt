@@ -24,7 +24,7 @@ use Rattle.graph_answers.specs.Delivered.{Delivers, IsAnswered}
 use Rattle.realm_top.specs.SessionTexts.{unfit_in_by, unfit_in_text}
 use Rattle.graph_answers.specs.Texts.{slots_text}
 use Rattle.realm_top.specs.SessionAnswer.{IsNoSession, RefusesSession, GraphsAnswer, SessionAnswers, RunsUpTo, GraphsAsk, SessionAsks}
-use Rattle.realm_top.proofs.Answered.{accepted_or_unfit, broken_text, too_short}
+use Rattle.realm_top.proofs.Answered.{accepted_or_unfit, broken_text}
 
 -- a graph of a session that breaks a rule has a text
 pub unfit_in_has_text : (u : UnfitGraph) → u.why ≢ refusal.NoMemory → (out : List ℕ) × (unfit_in_text u ≡ Some out)
@@ -83,6 +83,9 @@ module _ (slots : ℕ) (gs : List LinkedGraph) (one : OneEnd slots gs) where
   one_graphs Slots _ out a b = absurd b
   one_graphs _ t out a b = absurd a
 
+past_most : (bytes : List ℕ) → length bytes ≤ 1048576 → 1048576 < length bytes → ⊥
+past_most bytes x y = omega arith
+
 -- and bytes are the text of one session or of none
 module _ (slots : ℕ) (bytes : List ℕ) (one : length bytes ≤ MAX_TEXT → OneSession bytes) (ends : (gs : List LinkedGraph) → OneEnd slots gs) where
   by_entries : (s t : Status) (out : List ℕ) (es fs : List Entry) → SessionText bytes es → SessionText bytes fs → GraphsAnswer slots (linked es) s out → GraphsAsk slots (linked fs) t → s ≡ t
@@ -93,13 +96,13 @@ module _ (slots : ℕ) (bytes : List ℕ) (one : length bytes ≤ MAX_TEXT → O
 
   pub one_session : (s t : Status) (out : List ℕ) → SessionAnswers slots bytes s out → SessionAsks slots bytes t → s ≡ t
   one_session Unread Unread out a b = refl
-  one_session Unread TooLong out a b = absurd (too_short bytes a.0 b)
+  one_session Unread TooLong out a b = absurd (past_most bytes a.0 b)
   one_session Unread t out a b = absurd (refused_or_text out b.0 a.1 b.1)
-  one_session TooLong Unread out a b = absurd (too_short bytes b.0 a.0)
+  one_session TooLong Unread out a b = absurd (past_most bytes b.0 a.0)
   one_session TooLong TooLong out a b = refl
-  one_session TooLong t out a b = absurd (too_short bytes b.1.short a.0)
+  one_session TooLong t out a b = absurd (past_most bytes b.1.short a.0)
   one_session s Unread out a b = absurd (b.1 a.0 a.1)
-  one_session s TooLong out a b = absurd (too_short bytes a.1.short b)
+  one_session s TooLong out a b = absurd (past_most bytes a.1.short b)
   one_session s t out a b = by_entries s t out a.0 b.0 a.1 b.1 a.2 b.2
 
 -- what becomes of the graphs of a session is the answer to its text, and so is what is refused

@@ -6,14 +6,15 @@ use Rattle.graph_terms.specs.declared.limits.TheConstants.{MAX_TEXT}
 use Rattle.command_line.specs.declared.request.Action.{Action}
 use Rattle.command_line.specs.declared.request.Action.TheVariants.{Run, Check, Eval, Make, Audit, Timeline, Upgrade, Session}
 use Rattle.command_line.specs.declared.request.Request.{Request}
+use Rattle.graph_words.specs.Limits.{text_limit}
 use Rattle.graph_gen.specs.MadeGraph.{made_graph}
 use Rattle.graph_answers.specs.declared.status.Status.{Status}
 use Rattle.graph_answers.specs.declared.status.Status.TheVariants.{Done, Usage, Unread, Unfit, ReadFault, WriteFault, NoMemory, Slots, TooLong, Unlawful}
 use Rattle.graph_answers.specs.Delivered.{IsAnswered}
-use Rattle.graph_answers.specs.AuditAnswer.{AUDIT_LIMIT, AuditAnswers, AuditAsks}
+use Rattle.graph_answers.specs.AuditAnswer.{audit_limit, AuditAnswers, AuditAsks}
 use Rattle.graph_answers.specs.UpgradeAnswer.{UpgradeAnswers, UpgradeAsks}
-use Rattle.realm_top.specs.SessionAnswer.{session_slots, SessionAnswers, SessionAsks}
-use Rattle.graph_answers.specs.Answer.{runs, made_says, Served, InputAnswers, EnoughSlots, TooFewSlots, InputAsks}
+use Rattle.realm_top.specs.SessionAnswer.{SessionAnswers, SessionAsks}
+use Rattle.graph_answers.specs.Answer.{runs, most_slots, made_says, Served, InputAnswers, EnoughSlots, TooFewSlots, InputAsks}
 
 -- what an action is for: a graph is read and checked, such a graph with a trace behind it, a graph is read alone, the graphs of a session are read and checked, or one is made
 pub data Purpose : Type 0 where
@@ -69,13 +70,14 @@ upgrades action = is_upgrading (purpose action)
 abbrev pub runs_session : Action → Bool
 runs_session action = is_in_session (purpose action)
 
--- the most bytes that the input may have
-abbrev pub limit_for : Purpose → ℕ
-limit_for Auditing = AUDIT_LIMIT
-limit_for _ = MAX_TEXT
+-- the most bytes that an input may have which begins as these do
+abbrev pub limit_for : Purpose → List ℕ → ℕ
+limit_for Auditing bytes = audit_limit bytes
+limit_for InSession bytes = MAX_TEXT
+limit_for _ bytes = text_limit bytes
 
-abbrev pub input_limit : Action → ℕ
-input_limit action = limit_for (purpose action)
+abbrev pub input_limit : Action → List ℕ → ℕ
+input_limit action bytes = limit_for (purpose action) bytes
 
 -- whether an action's graph is checked, with a trace behind it or alone, or its graphs are
 abbrev pub is_judging : Purpose → Bool
@@ -119,7 +121,7 @@ abbrev pub AnswersFor : Purpose → Request → List ℕ → Status → List ℕ
 AnswersFor Checking request bytes status out = InputAnswers request bytes status out
 AnswersFor Auditing request bytes status out = AuditAnswers bytes status out
 AnswersFor Upgrading request bytes status out = UpgradeAnswers request.to_three bytes status out
-AnswersFor InSession request bytes status out = SessionAnswers (session_slots request.slots) bytes status out
+AnswersFor InSession request bytes status out = SessionAnswers (most_slots request.slots) bytes status out
 AnswersFor Making request bytes status out = MadeAnswers request.text request (made_graph request.seed request.size) status out
 
 abbrev pub Answers : Request → List ℕ → Status → List ℕ → Type 0
@@ -137,7 +139,7 @@ abbrev pub AsksFor : Purpose → Request → List ℕ → Status → Type 0
 AsksFor Checking request bytes status = InputAsks request bytes status
 AsksFor Auditing request bytes status = AuditAsks bytes status
 AsksFor Upgrading request bytes status = UpgradeAsks bytes status
-AsksFor InSession request bytes status = SessionAsks (session_slots request.slots) bytes status
+AsksFor InSession request bytes status = SessionAsks (most_slots request.slots) bytes status
 AsksFor Making request bytes status = MadeAsks request.text request (made_graph request.seed request.size) status
 
 abbrev pub AsksStatus : Request → List ℕ → Status → Type 0

@@ -1,6 +1,5 @@
 -- What `session` is to answer, and what it is to write. Its input is the text of a session: graphs, one after the other, with links to operations of earlier ones.
 use Rattle.std.specs.Prelude.{◌≡◌, ℕ, ◌<◌, ◌≤◌, List, [], ◌∷◌, ◌++◌, length, Option, Some, None}
-use Rattle.command_line.specs.declared.request.TheConstants.{MAX_SLOTS}
 use Rattle.graph_terms.specs.declared.limits.TheConstants.{MAX_TEXT}
 use Rattle.graph_terms.specs.declared.why.Why.{Why}
 use Rattle.graph_meaning.specs.Rules.{Accepted}
@@ -19,11 +18,6 @@ use Rattle.graph_answers.specs.declared.status.Status.TheVariants.{Done, Unread,
 use Rattle.program_io.specs.Delivered.{Delivered, too_long_text}
 use Rattle.graph_answers.specs.Texts.{unread_text, slots_text}
 use Rattle.realm_top.specs.SessionTexts.{unfit_in_text}
-
--- how many slots the events of all graphs have: as many as are given, or 8,192
-abbrev pub session_slots : Option ℕ → ℕ
-session_slots None = MAX_SLOTS
-session_slots (Some slots) = slots
 
 -- the bytes are the text of no session: the line of this number is the first that is refused, for this reason
 pub record IsNoSession (bytes out : List ℕ) : Type 0 where

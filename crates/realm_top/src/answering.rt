@@ -5,13 +5,14 @@ ghost use Rattle.std.specs.Io.KnownBytes.{IsAtEnd};
 ghost use Rattle.realm_io.specs.Counts.{Rose};
 ghost use Rattle.realm_top.specs.Answer.{reads, may_end, AnsweredBy};
 
-use crate::actions::{input_limit, reads};
+use crate::actions::reads;
 use crate::input::answer;
 use crate::making::answer_made;
+use crate::reading::read_input;
 use command_line::request::{MAX_SIZE, MAX_SLOTS, MAX_WORKERS, Request};
 use graph_answers::status::Status;
 use program_io::put_too_long;
-use realm_io::{Gate, ReadEnd, Sink, Source, read_all};
+use realm_io::{Gate, ReadEnd, Sink, Source};
 use std::alloc::Global;
 use std::sync::Wait;
 use std::thread::Threads;
@@ -64,7 +65,7 @@ fn answer_read<R: Threads + Wait + Sync, S: Source, K: Sink, G: Gate>(
     ensures no_memory { result ≡ Status.NoMemory → sink.new ≡ sink.old }
     ensures counts { (S.faults source.old ≤ S.faults source.new) × ((K.state sink.old).faults ≤ (K.state sink.new).faults) }
 {
-    match read_all(alloc, source, input_limit(request.action)) {
+    match read_input(alloc, source, request.action) {
         Ok(bytes) => answer(rt, alloc, request, bytes.as_slice(), sink, gate),
         Err(ReadEnd::TooLong) => put_too_long(sink, Status::TooLong),
         Err(ReadEnd::ReadFault) => Status::ReadFault,

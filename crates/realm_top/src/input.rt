@@ -3,15 +3,16 @@
 ghost use Rattle.std.specs.Prelude.{◌≡◌, ℕ, ◌<◌, ◌≤◌, ◌⊎◌, List, true, false, length, Some, slice_get, IfSome};
 ghost use Rattle.graph_meaning.specs.Evaluation.{outcome};
 ghost use Rattle.graph_meaning.specs.Trace.{IsLawful};
-ghost use Rattle.graph_words.specs.Text.{text};
+ghost use Rattle.graph_words.specs.Limits.{text_limit};
 ghost use Rattle.realm_io.specs.Written.{Writes};
 ghost use Rattle.graph_answers.specs.Delivered.{Delivers, IsAnswered};
-ghost use Rattle.graph_answers.specs.Answer.{run_text, runs, is_short, InputAnswers, Serves, Settled};
+ghost use Rattle.graph_answers.specs.Answer.{run_text, runs, InputAnswers, Serves, Settled};
 ghost use Rattle.realm_top.specs.Answer.{reads, audits, upgrades, runs_session, input_limit, may_end, Answered};
 
 use crate::actions::{audits, runs_session, upgrades};
 use crate::running::run_graph;
 use crate::sessions::answer_session;
+use crate::slots::most_slots;
 use command_line::request::{Action, MAX_SLOTS, MAX_WORKERS, Request};
 use graph_answers::accepted::answer_unrun;
 use graph_answers::auditing::answer_audit;
@@ -22,7 +23,6 @@ use graph_answers::summary::put_summary;
 use graph_answers::upgrading::answer_upgrade;
 use graph_model::graph::Graph;
 use graph_reader::read_graph;
-use graph_terms::limits::MAX_TEXT;
 use graph_terms::outcome::Outcome;
 use program_io::flush;
 use race_check::check;
@@ -42,7 +42,7 @@ pub(crate) fn answer<R: Threads + Wait + Sync, K: Sink, G: Gate>(
     gate: &G,
 ) -> Status
     requires reads { reads request.action ≡ true }
-    requires short { length bytes.now ≤ input_limit request.action }
+    requires short { length bytes.now ≤ input_limit request.action bytes.now }
     requires workers { request.workers ≤ MAX_WORKERS }
     requires slots { IfSome request.slots (λ n. (1 ≤ n) × (n ≤ MAX_SLOTS)) }
     ensures answered { Answered request bytes.now (K.state sink.old) (K.state sink.new) result }
@@ -70,8 +70,10 @@ fn answer_graph<R: Threads + Wait + Sync, K: Sink, G: Gate>(
     gate: &G,
 ) -> Status
     requires checks { (audits request.action ≡ false) × (upgrades request.action ≡ false) × (runs_session request.action ≡ false) }
-    requires short { length bytes.now ≤ MAX_TEXT }
+    requires reads { reads request.action ≡ true }
+    requires short { length bytes.now ≤ text_limit bytes.now }
     requires workers { request.workers ≤ MAX_WORKERS }
+    requires slots { IfSome request.slots (λ n. (1 ≤ n) × (n ≤ MAX_SLOTS)) }
     ensures answered { IsAnswered (InputAnswers request bytes.now) (K.state sink.old) (K.state sink.new) result }
     ensures no_memory { result ≡ Status.NoMemory → sink.new ≡ sink.old }
 {
@@ -91,7 +93,9 @@ pub(crate) fn judge<R: Threads + Wait + Sync, K: Sink, G: Gate>(
     gate: &G,
 ) -> Status
     requires checks { (audits request.action ≡ false) × (upgrades request.action ≡ false) × (runs_session request.action ≡ false) }
+    requires made { request.action ≡ Action.Make → request.text ≡ false }
     requires workers { request.workers ≤ MAX_WORKERS }
+    requires slots { IfSome request.slots (λ n. (1 ≤ n) × (n ≤ MAX_SLOTS)) }
     ensures settled { Settled request graph (K.state sink.old) (K.state sink.new) result }
     ensures no_memory { result ≡ Status.NoMemory → sink.new ≡ sink.old }
 {
@@ -111,20 +115,16 @@ fn serve<R: Threads + Wait + Sync, K: Sink, G: Gate>(
     gate: &G,
 ) -> Status
     requires checks { (audits request.action ≡ false) × (upgrades request.action ≡ false) × (runs_session request.action ≡ false) }
+    requires made { request.action ≡ Action.Make → request.text ≡ false }
     requires workers { request.workers ≤ MAX_WORKERS }
+    requires slots { IfSome request.slots (λ n. (1 ≤ n) × (n ≤ MAX_SLOTS)) }
     ensures served { Serves request checked.now.graph (K.state sink.old) (K.state sink.new) result }
     ensures no_memory { result ≡ Status.NoMemory → sink.new ≡ sink.old }
 {
-    let _ = checked.graph();
-    if is_short(&request, checked.need()) {
-        return put_short(sink, checked.need());
-    }
-    match request.action {
-        Action::Run | Action::Make => run(rt, alloc, &request, checked, sink, gate),
-        Action::Check | Action::Eval | Action::Timeline => {
-            answer_unrun(alloc, &request, checked, sink)
-        }
-        Action::Audit | Action::Upgrade | Action::Session => unreachable!(),
+    if is_run(&request) {
+        run_within(rt, alloc, &request, checked, sink, gate)
+    } else {
+        answer_unrun(alloc, &request, checked, sink)
     }
 }
 
@@ -139,13 +139,26 @@ fn is_run(request: &Request) -> bool
     }
 }
 
-/// Whether a run is given fewer slots than this need.
-fn is_short(request: &Request, need: u32) -> bool
-    ensures { result ≡ is_short request.now need }
+/// Runs a graph, unless the run has fewer slots than its need.
+fn run_within<R: Threads + Wait + Sync, K: Sink, G: Gate>(
+    rt: &R,
+    alloc: Global,
+    request: &Request,
+    checked: &Checked,
+    sink: &mut K,
+    gate: &G,
+) -> Status
+    requires runs { runs request.now.action request.now.text ≡ true }
+    requires workers { request.now.workers ≤ MAX_WORKERS }
+    requires slots { IfSome request.now.slots (λ n. (1 ≤ n) × (n ≤ MAX_SLOTS)) }
+    ensures served { Serves request.now checked.now.graph (K.state sink.old) (K.state sink.new) result }
+    ensures no_memory { result ≡ Status.NoMemory → sink.new ≡ sink.old }
 {
-    match (is_run(request), request.slots) {
-        (true, Some(slots)) => slots < need,
-        _ => false,
+    let need = checked.need();
+    if most_slots(request.slots) < need {
+        put_short(sink, need)
+    } else {
+        run(rt, alloc, request, checked, sink, gate)
     }
 }
 
@@ -159,6 +172,7 @@ fn run<R: Threads + Wait + Sync, K: Sink, G: Gate>(
     gate: &G,
 ) -> Status
     requires workers { request.now.workers ≤ MAX_WORKERS }
+    requires need { checked.now.need ≤ MAX_SLOTS }
     ensures done { (result ≡ Status.NoMemory) ⊎ ((trace : List ℕ) × IsLawful checked.now.graph trace
         × Delivers (K.state sink.old) (K.state sink.new) Status.Done result
         (run_text request.now.action request.now.trace checked.now.graph trace)) }

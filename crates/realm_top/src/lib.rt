@@ -6,9 +6,11 @@ mod answering;
 mod input;
 mod laws;
 mod making;
+mod reading;
 mod running;
 mod session_refusal;
 mod sessions;
+mod slots;
 
 ghost use Rattle.std.specs.Prelude.{◌≡◌, ℕ, ◌≤◌, ◌⊎◌, List, None, true, false, IfSome};
 ghost use Rattle.std.specs.Io.KnownBytes.{IsAtEnd};
@@ -19,10 +21,10 @@ ghost use Rattle.graph_gen.specs.MadeGraph.{made_graph};
 ghost use Rattle.command_line.specs.Request.{request_of_words, Asks};
 ghost use Rattle.command_line.specs.declared.request.Request.{Request};
 ghost use Rattle.realm_top.specs.Answer.{reads, checks, audits, upgrades, runs_session, may_end, IsInput, Answers, AsksStatus};
-ghost use Rattle.graph_answers.specs.Answer.{made_says, EndsByPaths, IsDone};
+ghost use Rattle.graph_answers.specs.Answer.{most_slots, made_says, EndsByPaths, IsDone};
 ghost use Rattle.graph_answers.specs.AuditAnswer.{IsAudited};
 ghost use Rattle.graph_answers.specs.UpgradeAnswer.{IsUpgraded};
-ghost use Rattle.realm_top.specs.SessionAnswer.{session_slots, IsSessionDone};
+ghost use Rattle.realm_top.specs.SessionAnswer.{IsSessionDone};
 ghost use Rattle.program_io.specs.Delivered.{Delivered, BrokenOff};
 ghost use Rattle.graph_answers.specs.Status.{words_status, is_refusal};
 ghost use Rattle.graph_answers.specs.declared.status.Status.{Status};
@@ -80,7 +82,7 @@ pub fn realm<R: Threads + Wait + Sync, S: Source, K: Sink, G: Gate>(
     // Done, of `session`: the input is the one text of a session, each of its graphs with its links as lines is accepted, the
     // events of the lines that wait have slots enough, and the report of the session was written and flushed.
     ensures session { result ≡ Status.Done → (request : Request) × Asks words.now request × (runs_session request.action ≡ true
-        → IfSome (S.left source.old) (λ bytes. IsSessionDone (session_slots request.slots) bytes (K.state sink.old) (K.state sink.new))) }
+        → IfSome (S.left source.old) (λ bytes. IsSessionDone (most_slots request.slots) bytes (K.state sink.old) (K.state sink.new))) }
 
     // And all of the input was read.
     ensures at_end { result ≡ Status.Done → (request : Request) × Asks words.now request × (reads request.action ≡ true
@@ -100,7 +102,7 @@ pub fn realm<R: Threads + Wait + Sync, S: Source, K: Sink, G: Gate>(
     // Unread, Unfit, Slots, TooLong and Unlawful: the input, or the graph that was made, asks for that status, and the
     // text that says why was written and flushed: the first refused line with its first reason, the first rule that
     // fails with the least lines, for `session` of the first graph that cannot run and with its name, the need, that more
-    // was left than 1,048,576 bytes, and for `audit` than 2,097,152, or the first fault of the trace.
+    // was left than the action takes of a text which begins so, or the first fault of the trace.
     ensures refused { is_refusal result ≡ true → (request : Request) × Asks words.now request
         × ((bytes : List ℕ) → IsInput request.action (S.left source.old) bytes
         → (out : List ℕ) × Answers request bytes result out × Delivered (K.state sink.old) (K.state sink.new) out) }

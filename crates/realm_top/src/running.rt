@@ -21,7 +21,7 @@ use std::thread::Threads;
 /// The slots of a run where none are given.
 const DEFAULT_SLOTS: u32 = 256;
 
-/// Runs a graph by the engine and by as many workers as the request says.
+/// Runs a graph by the engine and by as many workers as the request says. It needs no more slots than there may be.
 pub(crate) fn run_graph<R: Threads + Wait + Sync, G: Gate>(
     rt: &R,
     alloc: Global,
@@ -30,6 +30,7 @@ pub(crate) fn run_graph<R: Threads + Wait + Sync, G: Gate>(
     gate: &G,
 ) -> Result<Outcome, NoMemory>
     requires workers { request.now.workers ≤ MAX_WORKERS }
+    requires need { checked.now.need ≤ MAX_SLOTS }
     ensures outcome { IfOk result (λ o. o ≡ outcome checked.now.graph o.trace) }
     ensures lawful { IfOk result (λ o. IsLawful checked.now.graph o.trace) }
     ensures lines { IfOk result (λ o. (k i : ℕ) → slice_get o.trace k ≡ Some i → i < length checked.now.graph.lines) }

@@ -1,26 +1,31 @@
 //! What is done by `session`: graphs are run one after the other, and their events outlast them.
 
-ghost use Rattle.std.specs.Prelude.{◌≡◌, ◌≢◌, ℕ, ◌≤◌, List, length, map, Some, IfSome};
+ghost use Rattle.std.specs.Prelude.{◌≡◌, ◌≢◌, ℕ, ◌≤◌, List, length, map, Some, IfOk, IfSome};
 ghost use Rattle.graph_terms.specs.declared.limits.TheConstants.{MAX_TEXT};
 ghost use Rattle.race_check.specs.declared.checked.CheckRefusal.{CheckRefusal};
 ghost use Rattle.race_check.specs.Refusal.{NamesLines};
+ghost use Rattle.session_text.specs.declared.limits.TheConstants.{MAX_SESSION_LINES};
 ghost use Rattle.session_text.specs.Fits.{AreEntries};
 ghost use Rattle.session_text.specs.FirstFault.{IsRefusal};
 ghost use Rattle.session_run.specs.Linked.{linked};
-ghost use Rattle.session_run.specs.Running.{linked_of};
+ghost use Rattle.session_run.specs.Running.{linked_of, IsOutcome};
 ghost use Rattle.session_run.specs.Ended.{IsEnded};
 ghost use Rattle.session_run.specs.Report.{session_report};
+ghost use Rattle.graph_answers.specs.Answer.{most_slots};
 ghost use Rattle.graph_answers.specs.Delivered.{Delivers, IsAnswered};
 ghost use Rattle.realm_top.specs.SessionTexts.{unfit_in_text};
-ghost use Rattle.realm_top.specs.SessionAnswer.{session_slots, RefusesSession, GraphsAnswer, SessionAnswers};
+ghost use Rattle.realm_top.specs.SessionAnswer.{RefusesSession, GraphsAnswer, SessionAnswers};
 
 use crate::running::run_graph;
 use crate::session_refusal::put_broken_in;
+use crate::slots::most_slots;
 use checked_graph::Checked;
 use command_line::request::{MAX_SLOTS, MAX_WORKERS, Request};
 use graph_answers::refusing::{put_refusal, put_short};
 use graph_answers::status::Status;
 use graph_reader::ReadRefusal;
+use graph_terms::outcome::Outcome;
+use index_spaces::NoMemory;
 use program_io::flush;
 use realm_io::{Gate, Sink};
 use session_run::{Ended, RunFault, UnfitGraph, put_session, run_session};
@@ -41,7 +46,7 @@ pub(crate) fn answer_session<R: Threads + Wait + Sync, K: Sink, G: Gate>(
     requires short { length bytes.now ≤ MAX_TEXT }
     requires workers { request.workers ≤ MAX_WORKERS }
     requires slots { IfSome request.slots (λ n. (1 ≤ n) × (n ≤ MAX_SLOTS)) }
-    ensures answered { IsAnswered (SessionAnswers (session_slots request.slots) bytes.now) (K.state sink.old) (K.state sink.new) result }
+    ensures answered { IsAnswered (SessionAnswers (most_slots request.slots) bytes.now) (K.state sink.old) (K.state sink.new) result }
     ensures no_memory { result ≡ Status.NoMemory → sink.new ≡ sink.old }
 {
     match read_session(alloc, bytes) {
@@ -74,17 +79,18 @@ fn run_entries<R: Threads + Wait + Sync, K: Sink, G: Gate>(
     requires entries { AreEntries entries.items }
     requires workers { request.workers ≤ MAX_WORKERS }
     requires slots { IfSome request.slots (λ n. (1 ≤ n) × (n ≤ MAX_SLOTS)) }
-    ensures ran { IsAnswered (GraphsAnswer (session_slots request.slots) (linked entries.items)) (K.state sink.old) (K.state sink.new) result }
+    ensures ran { IsAnswered (GraphsAnswer (most_slots request.slots) (linked entries.items)) (K.state sink.old) (K.state sink.new) result }
     ensures no_memory { result ≡ Status.NoMemory → sink.new ≡ sink.old }
 {
-    let slots = session_slots(request.slots);
+    let slots = most_slots(request.slots);
     let each = Request {
         slots: None,
         ..request
     };
     let run = |checked: &Checked|
-        requires { each.workers ≤ MAX_WORKERS }
-    { run_graph(rt, alloc, &each, checked, gate) };
+        requires workers { each.workers ≤ MAX_WORKERS }
+        requires few { length checked.now.graph.lines ≤ MAX_SESSION_LINES }
+    { run_one(rt, alloc, &each, checked, gate) };
     match run_session(alloc, &run, entries, slots) {
         Ok(ended) => put_ended(sink, &ended),
         Err(RunFault::Unfit(unfit)) => reject_in(sink, &unfit),
@@ -93,16 +99,20 @@ fn run_entries<R: Threads + Wait + Sync, K: Sink, G: Gate>(
     }
 }
 
-/// The slots of a session: those that are given, or as many as a session can need.
-fn session_slots(given: Option<u32>) -> u32
-    requires { IfSome given (λ n. (1 ≤ n) × (n ≤ MAX_SLOTS)) }
-    ensures slots { result ≡ session_slots given }
-    ensures within { (1 ≤ result) × (result ≤ MAX_SLOTS) }
+/// Runs a graph of a session, which has few lines and so needs few slots.
+fn run_one<R: Threads + Wait + Sync, G: Gate>(
+    rt: &R,
+    alloc: Global,
+    request: &Request,
+    checked: &Checked,
+    gate: &G,
+) -> Result<Outcome, NoMemory>
+    requires workers { request.now.workers ≤ MAX_WORKERS }
+    requires few { length checked.now.graph.lines ≤ MAX_SESSION_LINES }
+    ensures outcome { IfOk result (λ o. IsOutcome checked.now.graph o) }
 {
-    match given {
-        Some(slots) => slots,
-        None => MAX_SLOTS,
-    }
+    let _ = checked.need();
+    run_graph(rt, alloc, request, checked, gate)
 }
 
 /// Writes the report of a session, and flushes it.

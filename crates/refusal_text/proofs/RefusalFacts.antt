@@ -1,6 +1,6 @@
 -- Texts of lines and of sections.
 use Rattle.std.proofs.Common.{◌≡◌, ℕ, ◌+◌, ◌<◌, ◌≤◌, true, false, List, [], ◌∷◌, ◌++◌, length, take, cond, refl, sym, ◌∙◌, ap, append_assoc, arith}
-use Rattle.std.specs.Prelude.{slice_index, codes, flat_map, ◌==◌}
+use Rattle.std.specs.Prelude.{slice_index, codes, flat_map, ◌==◌, Option, Some, None, is_some}
 use Rattle.std.proofs.lemmas.Bool.{true≢false, eqb-true}
 use Rattle.std.proofs.lemmas.List.{take_more, take_all, append-nil}
 use Rattle.std.proofs.lemmas.Grind.{flat_map-append}
@@ -10,7 +10,9 @@ use Rattle.graph_terms.specs.Graph.{GraphValue}
 use Rattle.explain_text.specs.TextLines.{TextLines}
 use Rattle.explain_text.specs.Lines.{by_number, numbered}
 use Rattle.explain_text.proofs.Public.{then_put}
-use Rattle.refusal_text.specs.Refused.{lines_text, few_lines_text, in_sections, waited, on_line, on_merge, advice_by, order_text, held_text, advice_text}
+use Rattle.tried_advice.specs.declared.form.Form.{Form}
+use Rattle.explain_graph.specs.declared.reasons.Sections.{Sections}
+use Rattle.refusal_text.specs.Refused.{lines_text, few_lines_text, in_sections, waited, on_line, on_merge, advice_by, named_text}
 
 -- no line, and one more
 pub lines_begin : (g : GraphValue) (ls : TextLines) (old : List ℕ) → old ≡ old ++ lines_text g ls []
@@ -38,14 +40,10 @@ pub in_some : (g : GraphValue) (ls : TextLines) (i : ℕ) (qs : List ℕ) → (l
 in_some g ls i [] e = absurd (true≢false e)
 in_some g ls i (q ∷ qs) e = refl
 
--- what would order two lines, of which the second lies in no section or in some
-pub advice_none : (g : GraphValue) (ls : TextLines) (i j : ℕ) (qs : List ℕ) → (length qs == 0) ≡ true → order_text g ls i j ≡ advice_text g ls i j qs
-advice_none g ls i j [] e = refl
-advice_none g ls i j (q ∷ qs) e = absurd (let z : length (q ∷ qs) ≡ 0 = eqb-true (length (q ∷ qs)) 0 e in omega arith)
-
-pub advice_some : (g : GraphValue) (ls : TextLines) (i j : ℕ) (qs : List ℕ) → (length qs == 0) ≡ false → held_text g ls i j qs ≡ advice_text g ls i j qs
-advice_some g ls i j [] e = absurd (true≢false e)
-advice_some g ls i j (q ∷ qs) e = refl
+-- the sections of two lines, where nothing orders them that was tried
+pub named_none : (g : GraphValue) (ls : TextLines) (s : Sections) (i j : ℕ) (o : Option Form) → is_some o ≡ false → in_sections g ls i s.first.items ++ in_sections g ls j s.second.items ≡ named_text g ls o s i j
+named_none g ls s i j None e = refl
+named_none g ls s i j (Some form) e = absurd (true≢false e)
 
 -- what a line is to be on, which is on no line or on some
 pub advice_bare : (g : GraphValue) (on : List ℕ) (i : ℕ) → (length on == 0) ≡ true → on_line g i (codes "\n") ≡ advice_by g on i

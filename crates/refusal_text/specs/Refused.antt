@@ -14,6 +14,8 @@ use Rattle.graph_terms.specs.Spelling.{line_name, lock_name, column_name}
 use Rattle.graph_terms.specs.Reservations.{lock_at, both_shared}
 use Rattle.explanations.specs.declared.meetings.Meeting.{Meeting}
 use Rattle.explanations.specs.declared.races.SharedPoint.{SharedPoint}
+use Rattle.tried_advice.specs.declared.form.Form.{Form}
+use Rattle.tried_advice.specs.declared.form.Form.TheVariants.{OnLine, Between}
 use Rattle.explain_graph.specs.declared.reasons.CycleReason.{CycleReason}
 use Rattle.explain_graph.specs.declared.reasons.UnreleasedReason.{UnreleasedReason}
 use Rattle.explain_graph.specs.declared.reasons.SectionReason.{SectionReason}
@@ -124,7 +126,7 @@ abbrev pub in_sections : GraphValue → TextLines → ℕ → List ℕ → List 
 in_sections g ls i [] = by_number g ls i ++ codes " lies in no section\n"
 in_sections g ls i (q ∷ qs) = by_number g ls i ++ (codes " lies in the section of\n" ++ few_lines_text g ls (q ∷ qs))
 
--- what would order them: the second is to wait for the first, in format 3 besides what it waits for
+-- a line is to wait for an event, in format 3 besides what it waits for
 abbrev pub on_line : GraphValue → ℕ → List ℕ → List ℕ
 on_line g i behind = codes "on " ++ (line_name g i ++ behind)
 
@@ -135,17 +137,22 @@ abbrev pub advice_by : GraphValue → List ℕ → ℕ → List ℕ
 advice_by g [] i = on_line g i (codes "\n")
 advice_by g (e ∷ es) i = cond (has_since Three g.format) (on_line g i (codes " too\n")) (on_merge g e i)
 
+-- a line is put on an event besides
+abbrev pub wait_text : GraphValue → TextLines → ℕ → ℕ → List ℕ
+wait_text g ls event line = by_number g ls line ++ (codes " " ++ advice_by g (on_of g line) event)
+
 abbrev pub order_text : GraphValue → TextLines → ℕ → ℕ → List ℕ
-order_text g ls i j = codes "to order them, put " ++ (by_number g ls j ++ (codes " " ++ advice_by g (on_of g j) i))
+order_text g ls event line = codes "to order them, put " ++ wait_text g ls event line
 
--- a line in a section may wait for another where that lies in the section too, or comes before its acquire
-abbrev pub held_text : GraphValue → TextLines → ℕ → ℕ → List ℕ → List ℕ
-held_text g ls i j qs =
-    codes "to order them, let " ++ (by_number g ls j ++ (codes " wait for " ++ (by_number g ls i ++ (codes ", where that lies in each of these sections too or comes before its acquire:\n" ++ in_sections g ls j qs))))
+-- a form, in words
+abbrev pub form_text : GraphValue → TextLines → Form → List ℕ
+form_text g ls (OnLine line event) = order_text g ls event line
+form_text g ls (Between before line after) = order_text g ls before line ++ (codes "and put " ++ wait_text g ls line after)
 
-abbrev pub advice_text : GraphValue → TextLines → ℕ → ℕ → List ℕ → List ℕ
-advice_text g ls i j [] = order_text g ls i j
-advice_text g ls i j (q ∷ qs) = held_text g ls i j (q ∷ qs)
+-- what orders two lines, or that no form does which was tried
+abbrev pub advice_text : GraphValue → TextLines → Option Form → List ℕ
+advice_text g ls None = codes "no wait that was tried orders them and breaks no rule\n"
+advice_text g ls (Some form) = form_text g ls form
 
 -- two acquires of one reservation
 abbrev pub are_equal : Option ℕ → Option ℕ → Bool
@@ -159,11 +166,9 @@ of_one_lock g q k = are_equal (lock_at g q) (lock_at g k)
 abbrev pub takes : GraphValue → ℕ → ℕ → Bool
 takes g lock q = are_equal (lock_at g q) (Some lock)
 
--- it keeps their sections apart, and what orders them
+-- it keeps their sections apart
 abbrev pub turn_text : GraphValue → TextLines → ℕ → ℕ → List ℕ
-turn_text g ls q k =
-    by_number g ls q ++ (codes " and " ++ (by_number g ls k ++ (codes " acquire one reservation: it keeps their sections apart, and does not order them\n"
-    ++ (codes "to order them, put " ++ (by_number g ls k ++ (codes " on the release of " ++ (by_number g ls q ++ (codes ", where that does not wait for " ++ (by_number g ls k ++ codes "\n")))))))))
+turn_text g ls q k = by_number g ls q ++ (codes " and " ++ (by_number g ls k ++ codes " acquire one reservation: it keeps their sections apart, and does not order them\n"))
 
 -- why they set no two lines apart that lie in their sections, since they are one acquire, or both are shared; or that they do not order them
 abbrev pub pair_by : GraphValue → TextLines → ℕ → ℕ → List ℕ
@@ -198,15 +203,20 @@ apart_text g ls s i j =
 abbrev pub turns_text : GraphValue → TextLines → Sections → List ℕ
 turns_text g ls s = pairs_text g ls (take MAX_SECTIONS s.first.items) (take MAX_SECTIONS s.second.items)
 
-abbrev pub sections_text : GraphValue → TextLines → Bool → Sections → ℕ → ℕ → List ℕ
-sections_text g ls commutes s i j = cond commutes (apart_text g ls s i j) (turns_text g ls s)
+-- where nothing orders them that was tried, the sections in which they lie
+abbrev pub named_text : GraphValue → TextLines → Option Form → Sections → ℕ → ℕ → List ℕ
+named_text g ls None s i j = in_sections g ls i s.first.items ++ in_sections g ls j s.second.items
+named_text g ls (Some form) s i j = []
+
+abbrev pub sections_text : GraphValue → TextLines → ConflictReason → List ℕ
+sections_text g ls r = cond r.commutes (apart_text g ls r.sections r.first r.second) (named_text g ls r.advice r.sections r.first r.second ++ turns_text g ls r.sections)
 
 abbrev pub race_text : GraphValue → TextLines → ConflictReason → List ℕ
 race_text g ls r =
     refused_two g (codes "race") r.first r.second
     ++ (numbered g ls r.first ++ (numbered g ls r.second ++ (shared_text g ls r.race.shared r.first r.second
     ++ (codes "neither waits for the other\n" ++ (meeting_text g ls r.race.meeting
-    ++ (advice_text g ls r.first r.second r.sections.second.items ++ sections_text g ls r.commutes r.sections r.first r.second))))))
+    ++ (advice_text g ls r.advice ++ sections_text g ls r))))))
 
 abbrev pub explanation_text : GraphValue → TextLines → Explanation → List ℕ
 explanation_text g ls (Cycle r) = cycle_text g ls r

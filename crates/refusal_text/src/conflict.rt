@@ -6,7 +6,7 @@ ghost use Rattle.graph_terms.specs.Graph.{columns, line_passes, is_shared};
 ghost use Rattle.graph_terms.specs.Reservations.{both_shared};
 ghost use Rattle.graph_terms.specs.Spelling.{column_name};
 ghost use Rattle.explain_graph.specs.Explanation.{NamesMeeting};
-ghost use Rattle.refusal_text.specs.Refused.{mode_word, shared_text, meeting_text, on_line, on_merge, advice_by, order_text, held_text, advice_text, on_of, most_told, told_few, few_lines_text, in_sections, are_equal, takes, of_one_lock, have_pair, none_text, turn_text, turns_text, pair_by, pair_text, pairs_with, pairs_text, apart_text, sections_text, race_text};
+ghost use Rattle.refusal_text.specs.Refused.{mode_word, shared_text, meeting_text, on_line, on_merge, advice_by, wait_text, order_text, form_text, advice_text, on_of, most_told, told_few, few_lines_text, in_sections, are_equal, takes, of_one_lock, have_pair, none_text, turn_text, turns_text, pair_by, pair_text, pairs_with, pairs_text, apart_text, named_text, sections_text, race_text};
 ghost use Rattle.explain_text.specs.Lines.{by_number};
 
 use crate::bounds::MAX_SECTIONS;
@@ -22,6 +22,7 @@ use graph_model::graph::Graph;
 use graph_terms::format::Format;
 use graph_terms::verb::Mode;
 use index_spaces::NoMemory;
+use tried_advice::form::Form;
 
 /// Puts why two lines race.
 pub(crate) fn put_conflict(
@@ -30,7 +31,6 @@ pub(crate) fn put_conflict(
     lines: &Lines,
     reason: &ConflictReason,
 ) -> Result<(), NoMemory>
-    requires second { reason.now.second < length graph.now.lines }
     requires column { reason.now.race.shared.one.column < length (columns graph.now) }
     requires meeting { IfSome reason.now.race.meeting (NamesMeeting graph.now) }
     ensures { OnOk result (text.new ≡ text.old ++ race_text graph.now lines.now reason.now) }
@@ -48,23 +48,8 @@ pub(crate) fn put_conflict(
     )?;
     text.put(b"neither waits for the other\n")?;
     put_meeting(text, graph, lines, &reason.race.meeting)?;
-    put_advice(
-        text,
-        graph,
-        lines,
-        reason.first,
-        reason.second,
-        reason.sections.second.as_slice(),
-    )?;
-    put_sections(
-        text,
-        graph,
-        lines,
-        reason.commutes,
-        &reason.sections,
-        reason.first,
-        reason.second,
-    )
+    put_advice(text, graph, lines, reason.advice)?;
+    put_sections(text, graph, lines, reason)
 }
 
 /// Puts the point that two lines share, and how they use it.
@@ -139,59 +124,88 @@ fn put_meeting(
     put_edges(text, graph, lines, meeting.to_second.as_slice())
 }
 
-/// Puts what would order two lines, where the second lies in the sections of these acquires.
+/// Puts what orders two lines, or that no form does which was tried.
 fn put_advice(
     text: &mut Text,
     graph: &Graph,
     lines: &Lines,
-    first: u32,
-    second: u32,
-    acquires: &[u32],
+    advice: Option<Form>,
 ) -> Result<(), NoMemory>
-    requires { second < length graph.now.lines }
-    ensures { OnOk result (text.new ≡ text.old ++ advice_text graph.now lines.now first second acquires.now) }
+    ensures { OnOk result (text.new ≡ text.old ++ advice_text graph.now lines.now advice) }
 {
-    if acquires.is_empty() {
-        put_order(text, graph, lines, first, second)
-    } else {
-        put_held(text, graph, lines, first, second, acquires)
+    match advice {
+        Some(form) => put_form(text, graph, lines, form),
+        None => text.put(b"no wait that was tried orders them and breaks no rule\n"),
     }
 }
 
-/// Puts on what the second line may be put.
+/// Puts a form in words.
+fn put_form(text: &mut Text, graph: &Graph, lines: &Lines, form: Form) -> Result<(), NoMemory>
+    ensures { OnOk result (text.new ≡ text.old ++ form_text graph.now lines.now form) }
+{
+    match form {
+        Form::OnLine { line, event } => put_order(text, graph, lines, event, line),
+        Form::Between {
+            before,
+            line,
+            after,
+        } => put_between(text, graph, lines, before, line, after),
+    }
+}
+
+/// Puts that a line comes between two others.
+fn put_between(
+    text: &mut Text,
+    graph: &Graph,
+    lines: &Lines,
+    before: u32,
+    line: u32,
+    after: u32,
+) -> Result<(), NoMemory>
+    ensures { OnOk result (text.new ≡ text.old ++ (order_text graph.now lines.now before line ++ (codes "and put " ++ wait_text graph.now lines.now line after))) }
+{
+    put_order(text, graph, lines, before, line)?;
+    text.put(b"and put ")?;
+    put_wait(text, graph, lines, line, after)
+}
+
+/// Puts on which event a line may be put.
 fn put_order(
     text: &mut Text,
     graph: &Graph,
     lines: &Lines,
-    first: u32,
-    second: u32,
+    event: u32,
+    line: u32,
 ) -> Result<(), NoMemory>
-    requires { second < length graph.now.lines }
-    ensures { OnOk result (text.new ≡ text.old ++ order_text graph.now lines.now first second) }
+    ensures { OnOk result (text.new ≡ text.old ++ order_text graph.now lines.now event line) }
 {
     text.put(b"to order them, put ")?;
-    put_by_number(text, graph, lines, second)?;
-    text.put(b" ")?;
-    put_advice_by(text, graph, graph.line(second).on.as_slice(), first)
+    put_wait(text, graph, lines, event, line)
 }
 
-/// Puts what has to be so for the second line to wait for the first, since it lies in sections.
-fn put_held(
+/// Puts a line, and on what it is to be.
+fn put_wait(
     text: &mut Text,
     graph: &Graph,
     lines: &Lines,
-    first: u32,
-    second: u32,
-    acquires: &[u32],
+    event: u32,
+    line: u32,
 ) -> Result<(), NoMemory>
-    ensures { OnOk result (text.new ≡ text.old ++ held_text graph.now lines.now first second acquires.now) }
+    ensures { OnOk result (text.new ≡ text.old ++ wait_text graph.now lines.now event line) }
 {
-    text.put(b"to order them, let ")?;
-    put_by_number(text, graph, lines, second)?;
-    text.put(b" wait for ")?;
-    put_by_number(text, graph, lines, first)?;
-    text.put(b", where that lies in each of these sections too or comes before its acquire:\n")?;
-    put_in_sections(text, graph, lines, second, acquires)
+    put_by_number(text, graph, lines, line)?;
+    text.put(b" ")?;
+    put_advice_by(text, graph, on_of(graph, line), event)
+}
+
+/// The events behind the `on` of a line. None also where there is no such line.
+fn on_of(graph: &Graph, line: u32) -> &[u32]
+    ensures { result.now ≡ on_of graph.now line }
+{
+    if line >= graph.lines() {
+        return &[];
+    }
+    graph.line(line).on.as_slice()
 }
 
 /// Puts on what a line is to be, which is on other lines or on none.
@@ -233,18 +247,45 @@ fn put_sections(
     text: &mut Text,
     graph: &Graph,
     lines: &Lines,
-    commutes: bool,
-    sections: &Sections,
-    first: u32,
-    second: u32,
+    reason: &ConflictReason,
 ) -> Result<(), NoMemory>
-    ensures { OnOk result (text.new ≡ text.old ++ sections_text graph.now lines.now commutes sections.now first second) }
+    ensures { OnOk result (text.new ≡ text.old ++ sections_text graph.now lines.now reason.now) }
 {
-    if commutes {
-        put_apart(text, graph, lines, sections, first, second)
-    } else {
-        put_turns(text, graph, lines, sections)
+    if reason.commutes {
+        return put_apart(
+            text,
+            graph,
+            lines,
+            &reason.sections,
+            reason.first,
+            reason.second,
+        );
     }
+    put_named(text, graph, lines, reason)?;
+    put_turns(text, graph, lines, &reason.sections)
+}
+
+/// Puts the sections in which two lines lie, where nothing orders them that was tried.
+fn put_named(
+    text: &mut Text,
+    graph: &Graph,
+    lines: &Lines,
+    reason: &ConflictReason,
+) -> Result<(), NoMemory>
+    ensures { OnOk result (text.new ≡ text.old ++ named_text graph.now lines.now reason.now.advice reason.now.sections reason.now.first reason.now.second) }
+{
+    if reason.advice.is_some() {
+        return Ok(());
+    }
+    let sections = &reason.sections;
+    put_in_sections(text, graph, lines, reason.first, sections.first.as_slice())?;
+    put_in_sections(
+        text,
+        graph,
+        lines,
+        reason.second,
+        sections.second.as_slice(),
+    )
 }
 
 /// Puts, of two lines of which the order counts, how their sections stand to each other that are of one
@@ -398,7 +439,7 @@ fn put_pair(
     put_turn(text, graph, lines, one, other)
 }
 
-/// Puts that one reservation keeps two sections apart, and what orders them.
+/// Puts that one reservation keeps two sections apart, and orders nothing.
 fn put_turn(
     text: &mut Text,
     graph: &Graph,
@@ -411,16 +452,7 @@ fn put_turn(
     put_by_number(text, graph, lines, one)?;
     text.put(b" and ")?;
     put_by_number(text, graph, lines, other)?;
-    text.put(
-        b" acquire one reservation: it keeps their sections apart, and does not order them\n",
-    )?;
-    text.put(b"to order them, put ")?;
-    put_by_number(text, graph, lines, other)?;
-    text.put(b" on the release of ")?;
-    put_by_number(text, graph, lines, one)?;
-    text.put(b", where that does not wait for ")?;
-    put_by_number(text, graph, lines, other)?;
-    text.put(b"\n")
+    text.put(b" acquire one reservation: it keeps their sections apart, and does not order them\n")
 }
 
 fn put_same(text: &mut Text, graph: &Graph, lines: &Lines, acquire: u32) -> Result<(), NoMemory>

@@ -1,10 +1,11 @@
 -- The quantities of a graph with one more item.
 use Rattle.std.proofs.Common.{◌≡◌, ℕ, zero, suc, ◌+◌, ◌-◌, ◌<◌, ◌≤◌, Bool, true, false, cond, List, [], ◌∷◌, ◌++◌, length, map, take, drop, get_or, refl, sym, ◌∙◌, ap, subst, append_assoc, arith, ⊎_elim}
-use Rattle.std.specs.Prelude.{Option, Some, None, option_map, bytes_eq, filter_map, unwrap_or, find, filter, sum_by, is_some, codes, slice_index_or, ◌==◌, Contains, nat_lt}
+use Rattle.std.specs.Prelude.{Option, Some, None, option_map, bytes_eq, filter_map, unwrap_or, find, filter, sum_by, is_some, codes, slice_index_or, ◌==◌, Contains, nat_lt, Vec}
 use Rattle.std.specs.Option.{option_map_or}
 use Rattle.std.proofs.lemmas.Bool.{cases_lt, eq-eqb, ne_eqb, cond-true, cond-false, le-ltb, true≢false}
 use Rattle.std.proofs.lemmas.List.{length-append, length-map, length-drop, append-nil, take_more}
-use Rattle.std.proofs.lemmas.Option.{slice_get-get_or}
+use Rattle.std.specs.Global.{Global}
+use Rattle.std.proofs.lemmas.Option.{slice_get-get_or, none-some, same_Some}
 use Rattle.std.proofs.lemmas.List.Elements.{filter-append, filter_map-append}
 use Rattle.std.proofs.lemmas.List.Sums.{sum_by-append, sum_by-cons}
 use Rattle.std.proofs.lemmas.List.FromFn.{length-range_with_len}
@@ -12,10 +13,10 @@ use Rattle.std.proofs.lemmas.Grind.{flat_map-append}
 use Rattle.basics.specs.Sums.{below}
 use Rattle.basics.proofs.ListFacts.{contains_here, contains_there}
 use Rattle.index_spaces.specs.Space.{space_size, points, interval_points}
-use Rattle.graph_terms.specs.declared.limits.TheConstants.{MAX_INSTS, MAX_COLUMNS, MAX_CELLS, MAX_LOCKS, MAX_BARRIERS, MAX_LINES, MAX_EDGES}
+use Rattle.graph_terms.specs.Limits.{limits}
 use Rattle.graph_terms.specs.declared.decl.ColumnInfo.{ColumnInfo}
 use Rattle.graph_terms.specs.declared.decl.Decl.{Decl}
-use Rattle.graph_terms.specs.declared.decl.Decl.TheVariants.{Inst, Lock, Barrier}
+use Rattle.graph_terms.specs.declared.decl.Decl.TheVariants.{Space, Inst, Lock, Barrier}
 use Rattle.graph_terms.specs.declared.format.Format.{Format}
 use Rattle.graph_terms.specs.declared.table.Kind.{Kind}
 use Rattle.graph_terms.specs.declared.table.Kind.TheVariants as kinds
@@ -24,22 +25,23 @@ use Rattle.graph_terms.specs.declared.verb.EdgeKind.{EdgeKind}
 use Rattle.graph_terms.specs.declared.verb.EdgeKind.TheVariants as edge_kinds
 use Rattle.graph_terms.specs.declared.verb.Line.{Line}
 use Rattle.graph_terms.specs.declared.verb.Verb.TheVariants.{Phase, Merge, MergeIgnore}
-use Rattle.graph_terms.specs.Graph.{GraphValue, lock_of, barrier_of, columns, locks, barriers, space_at, column_space, is_phase_of}
+use Rattle.graph_terms.specs.Graph.{GraphValue, named_spaces, space_of, lock_of, barrier_of, columns, locks, barriers, space_at, column_space, is_phase_of}
 use Rattle.graph_terms.specs.Edges.{edges, edges_into, last_place, edges_from_some, on_edges, line_edges, verb_edges}
-use Rattle.graph_terms.specs.Fits.{IsGraph, LinesFit, is_inst, cell_count, with_decl, with_line, most_events}
+use Rattle.graph_terms.specs.Fits.{IsGraph, LinesFit, is_inst, cell_count, with_decl, with_line}
 use Rattle.graph_terms.specs.Table.{verb_of}
 use Rattle.graph_indexes.specs.declared.counts.Counts.{Counts}
 use Rattle.graph_terms.proofs.Public.{edges_push}
 use Rattle.graph_model.proofs.CountLaws.{counts_with_decl, cells_of_fields}
 use Rattle.graph_model.proofs.TableLaws.{limits_line}
-use Rattle.graph_words.specs.Draft.{BarrierName, form_of, on_events, line_draft, merge_draft, lock_draft, barrier_draft, barrier_with, inst_draft, inst_with, op_of, space_number}
+use Rattle.graph_words.specs.Draft.{BarrierName, form_of, space_draft, space_with, on_events, line_draft, merge_draft, lock_draft, barrier_draft, barrier_with, inst_draft, inst_with, op_of, space_number}
 use Rattle.graph_reader.proofs.Public.{lock_shape, barrier_shape, inst_shape}
 use Rattle.basics.proofs.TestedLists.{find_mapped}
 use Rattle.graph_reader.specs.Kinds.{kind_draft, kind_verb, kind_on, kind_line, named_number}
 use Rattle.graph_reader.specs.Merges.{merge_verb, merge_line}
-use Rattle.graph_words.specs.Words.{pieces, count_of, value_of}
+use Rattle.graph_words.specs.Cuts.{Gives}
+use Rattle.graph_words.specs.Words.{pieces, count_of, value_of, intervals_of}
 use Rattle.index_spaces.specs.declared.Op.{Op}
-use Rattle.refused_words.specs.Limits.{QuantityValue, quantity_value, quantity, is_above, verb_quantities, on_quantities, event_quantities, limit_in, inst_limit}
+use Rattle.refused_words.specs.Limits.{QuantityValue, quantity_value, quantity, is_above, spaces_quantity, spaces_of, verb_quantities, on_quantities, event_quantities, space_quantities, limit_in, intervals_limit, inst_limit}
 use Rattle.refused_words.specs.declared.limits.Quantity.{Quantity}
 
 lines_more : (g : GraphValue) (l : Line) → length (with_line g l).lines ≡ length g.lines + 1
@@ -48,6 +50,13 @@ lines_more g l = length-append g.lines (l ∷ [])
 edges_more : (g : GraphValue) (l : Line) → length (edges (with_line g l)) ≡ length (edges g) + length (line_edges g.lines l)
 edges_more g l = ap length (edges_push g l) ∙ length-append (edges g) (line_edges g.lines l)
 
+-- the spaces of a graph with no more, and with one more declaration
+pub no_more : (g : GraphValue) (d : QuantityValue) → d ≡ spaces_quantity g.format (length (named_spaces g) + 0) → d ≡ spaces_quantity g.format (length (named_spaces g))
+no_more g d is = is ∙ ap (spaces_quantity g.format) (let same : length (named_spaces g) + 0 ≡ length (named_spaces g) = omega arith in same)
+
+spaces_with : (g : GraphValue) (d : Decl) → length (named_spaces (with_decl g d)) ≡ length (named_spaces g) + length (filter_map space_of (d ∷ []))
+spaces_with g d = ap length (filter_map-append space_of g.decls (d ∷ [])) ∙ length-append (filter_map space_of g.decls) (filter_map space_of (d ∷ []))
+
 -- a merge
 merge_edges : (g : GraphValue) (ignores : Bool) (name : List ℕ) (es : List (List ℕ)) → length (line_edges g.lines (merge_line g ignores name es)) ≡ length es
 merge_edges g true name es = length-map _ _ ∙ length-map es _
@@ -55,32 +64,33 @@ merge_edges g false name es = length-map _ _ ∙ length-map es _
 
 abbrev merge_quantities : GraphValue → ℕ → List QuantityValue
 merge_quantities g n =
-    quantity (codes "operations") (length g.lines + 1) MAX_LINES
-    ∷ quantity (codes "events of a merge") n (most_events g.format)
-    ∷ quantity (codes "edges") (length (edges g) + n) MAX_EDGES
-    ∷ []
+    quantity (codes "operations") (length g.lines + 1) (limits g.format).lines
+    ∷ quantity (codes "events of a merge") n (limits g.format).events
+    ∷ quantity (codes "edges") (length (edges g) + n) (limits g.format).edges
+    ∷ spaces_of g
 
-same_merge : (lines events edges n m k most : ℕ) → lines ≡ n → events ≡ m → edges ≡ k →
-    find is_above (quantity (codes "operations") lines MAX_LINES ∷ quantity (codes "events of a merge") events most ∷ quantity (codes "edges") edges MAX_EDGES ∷ [])
-    ≡ find is_above (quantity (codes "operations") n MAX_LINES ∷ quantity (codes "events of a merge") m most ∷ quantity (codes "edges") k MAX_EDGES ∷ [])
-same_merge lines events edges n m k most a b c = cc
+same_merge : (lines events edges n m k most_lines most most_edges : ℕ) (more : List QuantityValue) → lines ≡ n → events ≡ m → edges ≡ k →
+    find is_above (quantity (codes "operations") lines most_lines ∷ quantity (codes "events of a merge") events most ∷ quantity (codes "edges") edges most_edges ∷ more)
+    ≡ find is_above (quantity (codes "operations") n most_lines ∷ quantity (codes "events of a merge") m most ∷ quantity (codes "edges") k most_edges ∷ more)
+same_merge lines events edges n m k most_lines most most_edges more a b c = cc
 
 merge_some : (g : GraphValue) (name : List ℕ) (ignores : Bool) (es : List (List ℕ)) → 0 < length es → limit_in g (merge_draft g name (merge_verb ignores) es) ≡ find is_above (merge_quantities g (length es))
 merge_some g name ignores [] some = absurd (omega arith)
 merge_some g name true (e ∷ es) some =
-    same_merge _ _ _ _ _ _ _ (lines_more g (merge_line g true name (e ∷ es))) (length-map (e ∷ es) _) (edges_more g (merge_line g true name (e ∷ es)) ∙ ap (λ k. length (edges g) + k) (merge_edges g true name (e ∷ es)))
+    same_merge _ _ _ _ _ _ (limits g.format).lines (limits g.format).events (limits g.format).edges (spaces_of g) (lines_more g (merge_line g true name (e ∷ es))) (length-map (e ∷ es) _) (edges_more g (merge_line g true name (e ∷ es)) ∙ ap (λ k. length (edges g) + k) (merge_edges g true name (e ∷ es)))
 merge_some g name false (e ∷ es) some =
-    same_merge _ _ _ _ _ _ _ (lines_more g (merge_line g false name (e ∷ es))) (length-map (e ∷ es) _) (edges_more g (merge_line g false name (e ∷ es)) ∙ ap (λ k. length (edges g) + k) (merge_edges g false name (e ∷ es)))
+    same_merge _ _ _ _ _ _ (limits g.format).lines (limits g.format).events (limits g.format).edges (spaces_of g) (lines_more g (merge_line g false name (e ∷ es))) (length-map (e ∷ es) _) (edges_more g (merge_line g false name (e ∷ es)) ∙ ap (λ k. length (edges g) + k) (merge_edges g false name (e ∷ es)))
 
-same_three : (a b c x y z : QuantityValue) → a ≡ x → b ≡ y → c ≡ z → find is_above (a ∷ b ∷ c ∷ []) ≡ find is_above (x ∷ y ∷ z ∷ [])
-same_three a b c x y z p q r = cc
+same_four : (a b c d x y z w : QuantityValue) → a ≡ x → b ≡ y → c ≡ z → d ≡ w → find is_above (a ∷ b ∷ c ∷ d ∷ []) ≡ find is_above (x ∷ y ∷ z ∷ w ∷ [])
+same_four a b c d x y z w p q r s = cc
 
-pub merge_limit : (g : GraphValue) (name : List ℕ) (ignores : Bool) (ws : List (List ℕ)) (n : ℕ) (a b c : QuantityValue) → 2 ≤ length ws → n ≡ length ws - 1 → a ≡ quantity (codes "operations") (length g.lines + 1) MAX_LINES →
-    b ≡ quantity (codes "events of a merge") n (most_events g.format) → c ≡ quantity (codes "edges") (length (edges g) + n) MAX_EDGES → find is_above (a ∷ b ∷ c ∷ []) ≡ limit_in g (merge_draft g name (merge_verb ignores) (drop 1 ws))
-merge_limit g name ignores ws n a b c some is first second third =
+pub merge_limit : (g : GraphValue) (name : List ℕ) (ignores : Bool) (ws : List (List ℕ)) (n : ℕ) (a b c d : QuantityValue) → 2 ≤ length ws → n ≡ length ws - 1 → a ≡ quantity (codes "operations") (length g.lines + 1) (limits g.format).lines →
+    b ≡ quantity (codes "events of a merge") n (limits g.format).events → c ≡ quantity (codes "edges") (length (edges g) + n) (limits g.format).edges → d ≡ spaces_quantity g.format (length (named_spaces g) + 0) →
+    find is_above (a ∷ b ∷ c ∷ d ∷ []) ≡ limit_in g (merge_draft g name (merge_verb ignores) (drop 1 ws))
+merge_limit g name ignores ws n a b c d some is first second third fourth =
     let left : length (drop 1 ws) ≡ length ws - 1 = length-drop 1 ws in
     let same : n ≡ length (drop 1 ws) = omega arith in
-    same_three _ _ _ _ _ _ first (second ∙ ap (λ k. quantity (codes "events of a merge") k (most_events g.format)) same) (third ∙ ap (λ k. quantity (codes "edges") (length (edges g) + k) MAX_EDGES) same)
+    same_four _ _ _ _ _ _ _ _ first (second ∙ ap (λ k. quantity (codes "events of a merge") k (limits g.format).events) same) (third ∙ ap (λ k. quantity (codes "edges") (length (edges g) + k) (limits g.format).edges) same) (no_more g d fourth)
     ∙ sym (merge_some g name ignores (drop 1 ws) (omega arith))
 
 pub merge_none : (g : GraphValue) (name : List ℕ) (ignores : Bool) (ws : List (List ℕ)) → length ws < 2 → None ≡ limit_in g (merge_draft g name (merge_verb ignores) (drop 1 ws))
@@ -110,16 +120,17 @@ pub edge_if : (kind : EdgeKind) (o : Option ℕ) (i : ℕ) → length (edges_fro
 edge_if kind None i = refl
 edge_if kind (Some e) i = refl
 
-same_kind : (lines edges n k : ℕ) (qs rs : List QuantityValue) → lines ≡ n → edges ≡ k → qs ≡ rs →
-    find is_above (quantity (codes "operations") lines MAX_LINES ∷ qs ++ quantity (codes "edges") edges MAX_EDGES ∷ [])
-    ≡ find is_above (quantity (codes "operations") n MAX_LINES ∷ rs ++ quantity (codes "edges") k MAX_EDGES ∷ [])
-same_kind lines edges n k qs rs a b c =
-    ap (λ x. find is_above (quantity (codes "operations") x MAX_LINES ∷ qs ++ quantity (codes "edges") edges MAX_EDGES ∷ [])) a
-    ∙ (ap (λ x. find is_above (quantity (codes "operations") n MAX_LINES ∷ qs ++ quantity (codes "edges") x MAX_EDGES ∷ [])) b
-    ∙ ap (λ xs. find is_above (quantity (codes "operations") n MAX_LINES ∷ xs ++ quantity (codes "edges") k MAX_EDGES ∷ [])) c)
+same_kind : (lines edges n k most_lines most_edges : ℕ) (qs rs more : List QuantityValue) → lines ≡ n → edges ≡ k → qs ≡ rs →
+    find is_above ((quantity (codes "operations") lines most_lines ∷ qs ++ quantity (codes "edges") edges most_edges ∷ []) ++ more)
+    ≡ find is_above ((quantity (codes "operations") n most_lines ∷ rs ++ quantity (codes "edges") k most_edges ∷ []) ++ more)
+same_kind lines edges n k most_lines most_edges qs rs more a b c =
+    ap (λ x. find is_above ((quantity (codes "operations") x most_lines ∷ qs ++ quantity (codes "edges") edges most_edges ∷ []) ++ more)) a
+    ∙ (ap (λ x. find is_above ((quantity (codes "operations") n most_lines ∷ qs ++ quantity (codes "edges") x most_edges ∷ []) ++ more)) b
+    ∙ ap (λ xs. find is_above ((quantity (codes "operations") n most_lines ∷ xs ++ quantity (codes "edges") k most_edges ∷ []) ++ more)) c)
 
 kind_some : (g : GraphValue) (kind : Kind) (name : List ℕ) (ws : List (List ℕ)) (given on : ℕ) → given ≡ length (verb_edges g.lines (length g.lines) (kind_verb g kind ws)) → on ≡ length (on_events g.format (form_of kind) ws) →
-    limit_in g (Some (kind_draft g kind name ws)) ≡ find is_above (quantity (codes "operations") (length g.lines + 1) MAX_LINES ∷ on_quantities g.format (kind_on g kind ws) ++ quantity (codes "edges") (length (edges g) + (given + on)) MAX_EDGES ∷ [])
+    limit_in g (Some (kind_draft g kind name ws))
+    ≡ find is_above ((quantity (codes "operations") (length g.lines + 1) (limits g.format).lines ∷ on_quantities g.format (kind_on g kind ws) ++ quantity (codes "edges") (length (edges g) + (given + on)) (limits g.format).edges ∷ []) ++ spaces_of g)
 kind_some g kind name ws given on is there =
     let l : Line = kind_line g kind name ws in
     let by_on : length (on_edges l.on (length g.lines)) ≡ on = length-map l.on _ ∙ (length-map (on_events g.format (form_of kind) ws) _ ∙ sym there) in
@@ -127,20 +138,22 @@ kind_some g kind name ws given on is there =
     let all : length (edges (with_line g l)) ≡ length (edges g) + length (line_edges g.lines l) = edges_more g l in
     let verb : given ≡ length (verb_edges g.lines (length g.lines) l.verb) = is in
     let sum : length (edges (with_line g l)) ≡ length (edges g) + (given + on) = omega arith in
-    same_kind _ _ _ _ (event_quantities g.format l) (on_quantities g.format l.on) (lines_more g l) sum (ap (λ qs. qs ++ on_quantities g.format l.on) (no_events g.format kind _))
+    same_kind _ _ _ _ _ _ (event_quantities g.format l) (on_quantities g.format l.on) (spaces_of g) (lines_more g l) sum (ap (λ qs. qs ++ on_quantities g.format l.on) (no_events g.format kind _))
 
 -- no events are not too many
-none_behind : (format : Format) (on : List ℕ) (a b : QuantityValue) → find is_above (a ∷ quantity (codes "events behind on") (length on) (most_events format) ∷ b ∷ []) ≡ find is_above (a ∷ on_quantities format on ++ b ∷ [])
-none_behind format [] a b = ap (λ t. cond (is_above a) (Some a) (cond t (Some (quantity (codes "events behind on") 0 (most_events format))) (find is_above (b ∷ [])))) (le-ltb (most_events format) 0 (omega arith))
-none_behind format (e ∷ es) a b = refl
+none_behind : (format : Format) (on : List ℕ) (a b : QuantityValue) (more : List QuantityValue) →
+    find is_above (a ∷ quantity (codes "events behind on") (length on) (limits format).events ∷ b ∷ more) ≡ find is_above ((a ∷ on_quantities format on ++ b ∷ []) ++ more)
+none_behind format [] a b more =
+    ap (λ t. cond (is_above a) (Some a) (cond t (Some (quantity (codes "events behind on") 0 (limits format).events)) (find is_above (b ∷ more)))) (le-ltb (limits format).events 0 (omega arith))
+none_behind format (e ∷ es) a b more = refl
 
-pub kind_limit : (g : GraphValue) (kind : Kind) (name : List ℕ) (ws : List (List ℕ)) (given on : ℕ) (a b c : QuantityValue) → given ≡ length (verb_edges g.lines (length g.lines) (kind_verb g kind ws)) → on ≡ length (on_events g.format (form_of kind) ws) →
-    a ≡ quantity (codes "operations") (length g.lines + 1) MAX_LINES → b ≡ quantity (codes "events behind on") on (most_events g.format) → c ≡ quantity (codes "edges") (length (edges g) + (given + on)) MAX_EDGES →
-    find is_above (a ∷ b ∷ c ∷ []) ≡ limit_in g (Some (kind_draft g kind name ws))
-kind_limit g kind name ws given on a b c is there first second third =
+pub kind_limit : (g : GraphValue) (kind : Kind) (name : List ℕ) (ws : List (List ℕ)) (given on : ℕ) (a b c d : QuantityValue) → given ≡ length (verb_edges g.lines (length g.lines) (kind_verb g kind ws)) → on ≡ length (on_events g.format (form_of kind) ws) →
+    a ≡ quantity (codes "operations") (length g.lines + 1) (limits g.format).lines → b ≡ quantity (codes "events behind on") on (limits g.format).events → c ≡ quantity (codes "edges") (length (edges g) + (given + on)) (limits g.format).edges →
+    d ≡ spaces_quantity g.format (length (named_spaces g) + 0) → find is_above (a ∷ b ∷ c ∷ d ∷ []) ≡ limit_in g (Some (kind_draft g kind name ws))
+kind_limit g kind name ws given on a b c d is there first second third fourth =
     let count : on ≡ length (kind_on g kind ws) = there ∙ sym (length-map (on_events g.format (form_of kind) ws) _) in
-    same_three _ _ _ _ _ _ first (second ∙ ap (λ n. quantity (codes "events behind on") n (most_events g.format)) count) third
-    ∙ (none_behind g.format (kind_on g kind ws) _ _ ∙ sym (kind_some g kind name ws given on is there))
+    same_four _ _ _ _ _ _ _ _ first (second ∙ ap (λ n. quantity (codes "events behind on") n (limits g.format).events) count) third (no_more g d fourth)
+    ∙ (none_behind g.format (kind_on g kind ws) _ _ _ ∙ sym (kind_some g kind name ws given on is there))
 
 pub phase_verb : (g : GraphValue) (ws : List (List ℕ)) → 0 < length ws → kind_verb g kinds.Phase ws ≡ Phase (named_number g BarrierName (slice_index_or ws 0 []))
 phase_verb g [] some = absurd (omega arith)
@@ -223,21 +236,21 @@ entering_line g i = length (edges_into g i)
 abbrev of_lines : Format → List Decl → List Line → GraphValue
 of_lines fm ds ls = record { format = fm; decls = ds; lines = ls }
 
-few_with : (fm : Format) (ds : List Decl) (b ls : List Line) → length (edges (of_lines fm ds b)) ≤ 65536 → LinesFit fm ds b ls → length (edges (of_lines fm ds (b ++ ls))) ≤ 65536
-few_with fm ds b [] few f = subst (λ xs. length (edges (of_lines fm ds xs)) ≤ 65536) (sym (append-nil b)) few
-few_with fm ds b (l ∷ ls) few f = subst (λ xs. length (edges (of_lines fm ds xs)) ≤ 65536) (append_assoc b (l ∷ []) ls) (few_with fm ds (b ++ l ∷ []) ls (limits_line (of_lines fm ds b) l f.1).few_edges f.2)
+few_with : (fm : Format) (ds : List Decl) (b ls : List Line) → length (edges (of_lines fm ds b)) ≤ 524288 → LinesFit fm ds b ls → length (edges (of_lines fm ds (b ++ ls))) ≤ 524288
+few_with fm ds b [] few f = subst (λ xs. length (edges (of_lines fm ds xs)) ≤ 524288) (sym (append-nil b)) few
+few_with fm ds b (l ∷ ls) few f = subst (λ xs. length (edges (of_lines fm ds xs)) ≤ 524288) (append_assoc b (l ∷ []) ls) (few_with fm ds (b ++ l ∷ []) ls (limits_line (of_lines fm ds b) l f.1).few_edges f.2)
 
-few_edges : (g : GraphValue) → IsGraph g → length (edges g) ≤ 65536
+few_edges : (g : GraphValue) → IsGraph g → length (edges g) ≤ 524288
 few_edges g fits = few_with g.format g.decls [] g.lines (omega arith) fits.lines
 
 pub all_edges : (g : GraphValue) → ((e : Edge) → Contains (edges g) e → e.to < length g.lines) → below (entering_line g) (length g.lines) ≡ length (edges g)
 all_edges g to = all_enter (length g.lines) (edges g) to
 
-pub edges_so_far : (g : GraphValue) → IsGraph g → ((e : Edge) → Contains (edges g) e → e.to < length g.lines) → (n : ℕ) → n ≤ length g.lines → below (entering_line g) n ≤ 65536
+pub edges_so_far : (g : GraphValue) → IsGraph g → ((e : Edge) → Contains (edges g) e → e.to < length g.lines) → (n : ℕ) → n ≤ length g.lines → below (entering_line g) n ≤ 524288
 edges_so_far g fits to n h =
     let a : below (entering_line g) n ≤ below (entering_line g) (length g.lines) = below_le (entering_line g) n (length g.lines) h in
     let b : below (entering_line g) (length g.lines) ≡ length (edges g) = all_edges g to in
-    let c : length (edges g) ≤ 65536 = few_edges g fits in
+    let c : length (edges g) ≤ 524288 = few_edges g fits in
     omega arith
 
 -- the sums of loops
@@ -277,18 +290,20 @@ points_next is k n size d below was this =
     omega arith
 
 -- an instance
-same_inst : (insts cols cells i c m : ℕ) → insts ≡ i → cols ≡ c → cells ≡ m →
-    find is_above (quantity (codes "instances") insts MAX_INSTS ∷ quantity (codes "columns") cols MAX_COLUMNS ∷ quantity (codes "cells") cells MAX_CELLS ∷ [])
-    ≡ find is_above (quantity (codes "instances") i MAX_INSTS ∷ quantity (codes "columns") c MAX_COLUMNS ∷ quantity (codes "cells") m MAX_CELLS ∷ [])
-same_inst insts cols cells i c m a b d = cc
+same_inst : (insts cols cells i c m most_insts most_columns most_cells n k : ℕ) (f : Format) → insts ≡ i → cols ≡ c → cells ≡ m → n ≡ k →
+    find is_above (quantity (codes "instances") insts most_insts ∷ quantity (codes "columns") cols most_columns ∷ quantity (codes "cells") cells most_cells ∷ spaces_quantity f n ∷ [])
+    ≡ find is_above (quantity (codes "instances") i most_insts ∷ quantity (codes "columns") c most_columns ∷ quantity (codes "cells") m most_cells ∷ spaces_quantity f k ∷ [])
+same_inst insts cols cells i c m most_insts most_columns most_cells n k f a b d e = cc
 
 pub inst_with_limit : (g : GraphValue) → IsGraph g → (name space word : List ℕ) → limit_in g (Some (inst_with g name space word)) ≡ inst_limit g (space_number g space) (length (pieces 44 word))
 inst_with_limit g fits name space word =
     let d : Decl = Inst name (space_number g space) (pieces 44 word) in
     let counts = counts_with_decl g d fits in
-    same_inst _ _ _ _ _ _ (ap (λ (x : Counts). x.insts) counts)
+    let spaces : length (named_spaces (with_decl g d)) ≡ length (named_spaces g) + 0 = spaces_with g d in
+    same_inst _ _ _ _ _ _ _ _ _ _ _ _ (ap (λ (x : Counts). x.insts) counts)
     (ap (λ (x : Counts). x.columns) counts ∙ ap (λ n. length (columns g) + n) (length-map (pieces 44 word) _))
     (ap (λ (x : Counts). x.cells) counts ∙ ap (λ n. cell_count g + n) (cells_of_fields g name (space_number g space) (pieces 44 word)))
+    (let same : length (named_spaces (with_decl g d)) ≡ length (named_spaces g) = omega arith in same)
 
 pub inst_is_limit : (g : GraphValue) → IsGraph g → (ws : List (List ℕ)) (space fields : ℕ) → length ws ≡ 4 → space ≡ space_number g (slice_index_or ws 2 []) → fields ≡ length (pieces 44 (slice_index_or ws 3 [])) →
     inst_limit g space fields ≡ limit_in g (inst_draft g (drop 1 ws))
@@ -297,25 +312,50 @@ inst_is_limit g fits ws space fields four named spelled =
     ∙ (sym (inst_with_limit g fits (slice_index_or ws 1 []) (slice_index_or ws 2 []) (slice_index_or ws 3 [])) ∙ ap (limit_in g) (sym (inst_shape g ws four))))
 
 -- a reservation, and a barrier
-same_one : (name : List ℕ) (n m bound : ℕ) (a : QuantityValue) → a ≡ quantity name n bound → n ≡ m → find is_above (a ∷ []) ≡ find is_above (quantity name m bound ∷ [])
-same_one name n m bound a is e = ap (λ q. find is_above (q ∷ [])) (is ∙ ap (λ k. quantity name k bound) e)
+same_one : (name : List ℕ) (n m bound i k : ℕ) (f : Format) (a d : QuantityValue) → a ≡ quantity name n bound → n ≡ m → d ≡ spaces_quantity f i → i ≡ k → find is_above (a ∷ d ∷ []) ≡ find is_above (quantity name m bound ∷ spaces_quantity f k ∷ [])
+same_one name n m bound i k f a d is e last same = cc
 
-pub lock_limit : (g : GraphValue) (ws : List (List ℕ)) (a : QuantityValue) → length ws ≡ 2 → a ≡ quantity (codes "reservations") (length (locks g) + 1) MAX_LOCKS → find is_above (a ∷ []) ≡ limit_in g (lock_draft g (drop 1 ws))
-lock_limit g ws a two is =
+pub lock_limit : (g : GraphValue) (ws : List (List ℕ)) (a b : QuantityValue) → length ws ≡ 2 → a ≡ quantity (codes "reservations") (length (locks g) + 1) (limits g.format).locks → b ≡ spaces_quantity g.format (length (named_spaces g) + 0) →
+    find is_above (a ∷ b ∷ []) ≡ limit_in g (lock_draft g (drop 1 ws))
+lock_limit g ws a b two is last =
     let d : Decl = Lock (slice_index_or ws 1 []) in
     let more : length (locks (with_decl g d)) ≡ length (locks g) + 1 = ap length (filter_map-append lock_of g.decls (d ∷ [])) ∙ length-append (locks g) (filter_map lock_of (d ∷ [])) in
-    same_one (codes "reservations") _ _ MAX_LOCKS a is (sym more) ∙ ap (limit_in g) (sym (lock_shape g ws two))
+    same_one (codes "reservations") _ _ (limits g.format).locks _ _ g.format a b is (sym more) last (sym (spaces_with g d)) ∙ ap (limit_in g) (sym (lock_shape g ws two))
 
-barrier_by : (g : GraphValue) (ws : List (List ℕ)) (a : QuantityValue) (o : Option Op) → length ws ≡ 5 → op_of (slice_index_or ws 3 []) ≡ o → is_some o ≡ true → a ≡ quantity (codes "barriers") (length (barriers g) + 1) MAX_BARRIERS → find is_above (a ∷ []) ≡ limit_in g (barrier_draft g (drop 1 ws))
-barrier_by g ws a None five op there is = absurd (true≢false (sym there))
-barrier_by g ws a (Some o) five op there is =
-    let d : Decl = Barrier (slice_index_or ws 1 []) (unwrap_or (count_of (slice_index_or ws 2 [])) 0) o (unwrap_or (value_of (slice_index_or ws 4 [])) 0) in
+barrier_by : (g : GraphValue) (ws : List (List ℕ)) (a b : QuantityValue) (o : Option Op) → length ws ≡ 5 → op_of (slice_index_or ws 3 []) ≡ o → is_some o ≡ true → a ≡ quantity (codes "barriers") (length (barriers g) + 1) (limits g.format).barriers →
+    b ≡ spaces_quantity g.format (length (named_spaces g) + 0) → find is_above (a ∷ b ∷ []) ≡ limit_in g (barrier_draft g (drop 1 ws))
+barrier_by g ws a b None five op there is last = absurd (true≢false (sym there))
+barrier_by g ws a b (Some o) five op there is last =
+    let d : Decl = Barrier (slice_index_or ws 1 []) (unwrap_or (count_of g.format (slice_index_or ws 2 [])) 0) o (unwrap_or (value_of (slice_index_or ws 4 [])) 0) in
     let more : length (barriers (with_decl g d)) ≡ length (barriers g) + 1 = ap length (filter_map-append barrier_of g.decls (d ∷ [])) ∙ length-append (barriers g) (filter_map barrier_of (d ∷ [])) in
-    same_one (codes "barriers") _ _ MAX_BARRIERS a is (sym more)
-    ∙ ap (limit_in g) (sym (barrier_shape g ws five ∙ ap (option_map (λ x. barrier_with (slice_index_or ws 1 []) (slice_index_or ws 2 []) x (slice_index_or ws 4 []))) op))
+    same_one (codes "barriers") _ _ (limits g.format).barriers _ _ g.format a b is (sym more) last (sym (spaces_with g d))
+    ∙ ap (limit_in g) (sym (barrier_shape g ws five ∙ ap (option_map (λ x. barrier_with g.format (slice_index_or ws 1 []) (slice_index_or ws 2 []) x (slice_index_or ws 4 []))) op))
 
-pub barrier_limit : (g : GraphValue) (ws : List (List ℕ)) (a : QuantityValue) → length ws ≡ 5 → is_some (op_of (slice_index_or ws 3 [])) ≡ true → a ≡ quantity (codes "barriers") (length (barriers g) + 1) MAX_BARRIERS → find is_above (a ∷ []) ≡ limit_in g (barrier_draft g (drop 1 ws))
-barrier_limit g ws a five there is = barrier_by g ws a (op_of (slice_index_or ws 3 [])) five refl there is
+pub barrier_limit : (g : GraphValue) (ws : List (List ℕ)) (a b : QuantityValue) → length ws ≡ 5 → is_some (op_of (slice_index_or ws 3 [])) ≡ true → a ≡ quantity (codes "barriers") (length (barriers g) + 1) (limits g.format).barriers →
+    b ≡ spaces_quantity g.format (length (named_spaces g) + 0) → find is_above (a ∷ b ∷ []) ≡ limit_in g (barrier_draft g (drop 1 ws))
+barrier_limit g ws a b five there is last = barrier_by g ws a b (op_of (slice_index_or ws 3 [])) five refl there is last
+
+-- the intervals that a word spells, or none
+pub given_some : (o : Option (Vec (ℕ × ℕ) Global)) (v : Vec (ℕ × ℕ) Global) (r : Option (List (ℕ × ℕ))) → Gives (λ (x : Vec (ℕ × ℕ) Global). x.items) o r → o ≡ Some v → v.items ≡ unwrap_or r []
+given_some None v r gives is = absurd (none-some v is)
+given_some (Some x) v r gives is = ap (λ (y : Vec (ℕ × ℕ) Global). y.items) (sym (same_Some x v is)) ∙ ap (λ p. unwrap_or p []) (sym gives)
+
+pub given_none : (o : Option (Vec (ℕ × ℕ) Global)) (r : Option (List (ℕ × ℕ))) → Gives (λ (x : Vec (ℕ × ℕ) Global). x.items) o r → o ≡ None → [] ≡ unwrap_or r []
+given_none None r gives is = ap (λ p. unwrap_or p []) (sym gives)
+given_none (Some x) r gives is = absurd (none-some x (sym is))
+
+-- a space
+space_given : (g : GraphValue) (name word : List ℕ) (is : List (ℕ × ℕ)) → is ≡ unwrap_or (intervals_of word) [] → intervals_limit g is ≡ limit_in g (Some (space_with name word))
+space_given g name word is spelled =
+    let d : Decl = Space name (unwrap_or (intervals_of word) []) in
+    ap (intervals_limit g) spelled ∙ ap (λ n. find is_above (space_quantities g.format (unwrap_or (intervals_of word) []) ++ spaces_quantity g.format n ∷ [])) (sym (spaces_with g d))
+
+pub space_limit : (g : GraphValue) (ws : List (List ℕ)) (is : List (ℕ × ℕ)) → length ws ≡ 3 → is ≡ unwrap_or (intervals_of (slice_index_or ws 2 [])) [] → intervals_limit g is ≡ limit_in g (space_draft g (drop 1 ws))
+space_limit g [] is three spelled = absurd (omega (arith, three))
+space_limit g (a ∷ []) is three spelled = absurd (omega (arith, three))
+space_limit g (a ∷ b ∷ []) is three spelled = absurd (omega (arith, three))
+space_limit g (a ∷ b ∷ c ∷ []) is three spelled = space_given g b c is spelled
+space_limit g (a ∷ b ∷ c ∷ d ∷ ds) is three spelled = absurd (omega (arith, three))
 
 pub below_next : (f : ℕ → ℕ) (n : ℕ) → below f (n + 1) ≡ below f n + f n
 below_next f n = let one : n + 1 ≡ suc n = omega arith in ap (below f) one

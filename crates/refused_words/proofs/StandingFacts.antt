@@ -92,7 +92,7 @@ module _ (g : GraphValue) (w : List ℕ) (t : Place → List ℕ → Bool) where
   lock_shows (a ∷ []) is h = stands_at g (w ∷ a ∷ []) t 1 NewName a (omega arith) (is 1 (omega arith)) refl (or_last (t NewName a) h)
   lock_shows (a ∷ b ∷ bs) is h = absurd (true≢false (sym h))
 
-  barrier_by : (a b c d : List ℕ) (o : Option Op) → ((k : ℕ) → k < length (w ∷ a ∷ b ∷ c ∷ d ∷ []) → place_at g.format (w ∷ a ∷ b ∷ c ∷ d ∷ []) k ≡ barrier_place k) → Shows g (w ∷ a ∷ b ∷ c ∷ d ∷ []) t (option_map (λ op. barrier_with a b op d) o)
+  barrier_by : (a b c d : List ℕ) (o : Option Op) → ((k : ℕ) → k < length (w ∷ a ∷ b ∷ c ∷ d ∷ []) → place_at g.format (w ∷ a ∷ b ∷ c ∷ d ∷ []) k ≡ barrier_place k) → Shows g (w ∷ a ∷ b ∷ c ∷ d ∷ []) t (option_map (λ op. barrier_with g.format a b op d) o)
   barrier_by a b c d None is h = absurd (true≢false (sym h))
   barrier_by a b c d (Some op) is h = elim (or_cases (t NewName a) (t Count b || (t Value d || false)) h) [
     | inl p ↦ stands_at g (w ∷ a ∷ b ∷ c ∷ d ∷ []) t 1 NewName a (omega arith) (is 1 (omega arith)) refl p
@@ -381,7 +381,7 @@ lock_late g [] = refl
 lock_late g (a ∷ []) = refl
 lock_late g (a ∷ b ∷ bs) = refl
 
-barrier_late_by : (g : GraphValue) (a b d : List ℕ) (o : Option Op) → draft_late g (option_map (λ op. barrier_with a b op d) o) ≡ false
+barrier_late_by : (g : GraphValue) (a b d : List ℕ) (o : Option Op) → draft_late g (option_map (λ op. barrier_with g.format a b op d) o) ≡ false
 barrier_late_by g a b d None = refl
 barrier_late_by g a b d (Some op) = refl
 

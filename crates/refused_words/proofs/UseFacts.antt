@@ -9,6 +9,7 @@ use Rattle.std.proofs.lemmas.List.{length-map}
 use Rattle.index_spaces.specs.Space.{has_point, points}
 use Rattle.index_spaces.specs.declared.Op.{Op}
 use Rattle.graph_terms.specs.declared.verb.Access.{Access}
+use Rattle.graph_terms.specs.declared.format.Format.{Format}
 use Rattle.graph_terms.specs.declared.verb.Line.{Line}
 use Rattle.graph_terms.specs.declared.verb.Mode.{Mode}
 use Rattle.graph_terms.specs.declared.table.Kind.{Kind}
@@ -162,16 +163,16 @@ lock_none g [] = refl
 lock_none g (a ∷ []) = refl
 lock_none g (a ∷ b ∷ bs) = refl
 
-barrier_by : (a b d : List ℕ) (o : Option Op) → draft_accesses (option_map (λ op. barrier_with a b op d) o) ≡ []
-barrier_by a b d None = refl
-barrier_by a b d (Some op) = refl
+barrier_by : (format : Format) (a b d : List ℕ) (o : Option Op) → draft_accesses (option_map (λ op. barrier_with format a b op d) o) ≡ []
+barrier_by format a b d None = refl
+barrier_by format a b d (Some op) = refl
 
 barrier_none : (g : GraphValue) (ws : List (List ℕ)) → draft_accesses (barrier_draft g ws) ≡ []
 barrier_none g [] = refl
 barrier_none g (a ∷ []) = refl
 barrier_none g (a ∷ b ∷ []) = refl
 barrier_none g (a ∷ b ∷ c ∷ []) = refl
-barrier_none g (a ∷ b ∷ c ∷ d ∷ []) = barrier_by a b d (op_of c)
+barrier_none g (a ∷ b ∷ c ∷ d ∷ []) = barrier_by g.format a b d (op_of c)
 barrier_none g (a ∷ b ∷ c ∷ d ∷ e ∷ es) = refl
 
 either_none : (b : Bool) (x y : Option Draft) → draft_accesses x ≡ [] → draft_accesses y ≡ [] → draft_accesses (cond b x y) ≡ []

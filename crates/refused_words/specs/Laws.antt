@@ -2,11 +2,11 @@
 use Rattle.std.specs.Prelude.{◌≡◌, ℕ, ◌<◌, ◌⊎◌, nat_lt, Bool, true, false, List, length, Option, Some, is_some}
 use Rattle.std.specs.Option.{option_map_or}
 use Rattle.graph_terms.specs.declared.decl.Decl.{Decl}
-use Rattle.graph_terms.specs.declared.limits.TheConstants.{MAX_TEXT}
 use Rattle.graph_terms.specs.declared.verb.Line.{Line}
 use Rattle.graph_terms.specs.declared.why.Why.{Why}
 use Rattle.graph_terms.specs.declared.why.Why.TheVariants as reasons
 use Rattle.graph_terms.specs.Graph.{GraphValue}
+use Rattle.graph_terms.specs.Limits.{limits}
 use Rattle.graph_terms.specs.Fits.{IsGraph}
 use Rattle.graph_terms.specs.Spelling.{head}
 use Rattle.graph_words.specs.Draft.{Draft, draft}
@@ -32,7 +32,7 @@ RefusedHasWord = (g : GraphValue) (reason : Why) (ws : List (List ℕ)) → has_
 
 -- the text of a graph with this item at its end is too long
 abbrev pub is_long_with : GraphValue → Decl ⊎ Line → Bool
-is_long_with g item = nat_lt MAX_TEXT (length (head (with_value g item)))
+is_long_with g item = nat_lt (limits g.format).text (length (head (with_value g item)))
 
 -- with what was spelled, and with what a line of these words spells
 abbrev pub is_long_in : GraphValue → Option Draft → Bool

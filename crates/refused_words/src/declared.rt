@@ -1,24 +1,24 @@
 //! The quantities that a declaration is part of.
 
 ghost use Rattle.basics.specs.Words.{contents};
-ghost use Rattle.std.specs.Prelude.{◌≡◌, ℕ, ◌≤◌, ◌<◌, ◌+◌, ◌-◌, length, drop, filter, option_map, is_some, IfOk};
+ghost use Rattle.std.specs.Prelude.{◌≡◌, ◌≤◌, ◌<◌, ◌+◌, ◌-◌, length, drop, filter, option_map, is_some, IfOk};
 ghost use Rattle.index_spaces.specs.Space.{space_size};
-ghost use Rattle.graph_terms.specs.Graph.{GraphValue, space_at};
+ghost use Rattle.graph_terms.specs.Graph.{space_at};
 ghost use Rattle.graph_terms.specs.Fits.{is_inst, cell_count};
 ghost use Rattle.graph_words.specs.Draft.{op_of, decl_draft, space_draft, inst_draft, lock_draft, barrier_draft, SpaceName};
 ghost use Rattle.graph_reader.specs.Kinds.{named_number};
 ghost use Rattle.refused_words.specs.Limits.{quantity_value, limit_in, intervals_limit, inst_limit};
 
-use crate::limits::{Quantity, first_above, one_if, with_bound};
+use crate::limits::{Quantity, first_above, one_if, spaces, with_bound};
 use graph_model::graph::Graph;
 use graph_reader::seen::see;
 use graph_terms::decl::Decl;
-use graph_terms::limits::{MAX_BARRIERS, MAX_CELLS, MAX_COLUMNS, MAX_INSTS, MAX_LOCKS};
+use graph_terms::limits::Limits;
 use graph_terms::table::Place;
 use graph_words::intervals::intervals;
 use graph_words::words::{split, word};
 use index_spaces::NoMemory;
-use index_spaces::limits::{MAX_INTERVALS, MAX_POINTS};
+use index_spaces::limits::MAX_INTERVALS_OF_THREE;
 use std::alloc::Global;
 
 /// Of a declaration.
@@ -31,7 +31,7 @@ pub(crate) fn of_declaration(
 {
     let kind = word(words, 0);
     if kind == b"space".as_slice() {
-        return of_space(alloc, words);
+        return of_space(alloc, graph, words);
     }
     if kind == b"inst".as_slice() {
         return of_inst(alloc, graph, words);
@@ -45,38 +45,37 @@ pub(crate) fn of_declaration(
     Ok(None)
 }
 
-/// Of a space: its intervals, and its points.
-fn of_space(alloc: Global, words: &[&[u8]]) -> Result<Option<Quantity>, NoMemory>
-    ensures { IfOk result (λ o. (g : GraphValue) → option_map quantity_value o ≡ limit_in g (space_draft g (drop 1 (contents words.now)))) }
+/// Of a space: its intervals, its points, and the spaces.
+fn of_space(alloc: Global, graph: &Graph, words: &[&[u8]]) -> Result<Option<Quantity>, NoMemory>
+    ensures { IfOk result (λ o. option_map quantity_value o ≡ limit_in graph.now (space_draft graph.now (drop 1 (contents words.now)))) }
 {
     if words.len() != 3 {
         return Ok(None);
     }
     match intervals(alloc, word(words, 2))? {
-        Some(pairs) => Ok(of_intervals(pairs.as_slice())),
-        None => Ok(None),
+        Some(pairs) => Ok(of_intervals(graph, pairs.as_slice())),
+        None => Ok(of_intervals(graph, &[])),
     }
 }
 
-fn of_intervals(pairs: &[(u32, u32)]) -> Option<Quantity>
-    ensures { option_map quantity_value result ≡ intervals_limit pairs.now }
+/// Of a space of these intervals; a word that spells none counts as none.
+fn of_intervals(graph: &Graph, pairs: &[(u32, u32)]) -> Option<Quantity>
+    ensures { option_map quantity_value result ≡ intervals_limit graph.now pairs.now }
 {
+    let most = Limits::of(graph.format()).space;
     let count = pairs.len() as u64;
-    let intervals = with_bound(b"intervals of a space", count, MAX_INTERVALS as u64);
-    if count > MAX_INTERVALS as u64 {
+    let bound = u64::from(most.intervals);
+    let intervals = with_bound(b"intervals of a space", count, bound);
+    if count > bound {
         return Some(intervals);
     }
-    let points = with_bound(
-        b"points of a space",
-        point_count(pairs),
-        u64::from(MAX_POINTS),
-    );
-    first_above(&[points])
+    let points = with_bound(b"points of a space", point_count(pairs), most.points);
+    first_above(&[points, spaces(graph, 1)])
 }
 
 /// How many points intervals have: none where one is reversed.
 fn point_count(pairs: &[(u32, u32)]) -> u64
-    requires { length pairs.now ≤ MAX_INTERVALS }
+    requires { length pairs.now ≤ MAX_INTERVALS_OF_THREE }
     ensures { result ≡ space_size pairs.now }
 {
     let mut points: u64 = 0;
@@ -93,7 +92,7 @@ fn interval_size(pair: (u32, u32)) -> u64
     (u64::from(pair.1) + 1).saturating_sub(u64::from(pair.0))
 }
 
-/// Of an instance: the instances, the columns and the cells.
+/// Of an instance: the instances, the columns, the cells and the spaces.
 fn of_inst(alloc: Global, graph: &Graph, words: &[&[u8]]) -> Result<Option<Quantity>, NoMemory>
     ensures { IfOk result (λ o. option_map quantity_value o ≡ limit_in graph.now (inst_draft graph.now (drop 1 (contents words.now)))) }
 {
@@ -111,18 +110,16 @@ fn of_fields(graph: &Graph, space: u32, fields: u64) -> Option<Quantity>
     requires { fields ≤ 9223372036854775807 }
     ensures { option_map quantity_value result ≡ inst_limit graph.now space fields }
 {
-    let insts = with_bound(b"instances", inst_count(graph) + 1, MAX_INSTS);
+    let most = Limits::of(graph.format());
+    let insts = with_bound(b"instances", inst_count(graph) + 1, most.insts);
     let count = u64::from(graph.columns()) + fields;
-    let columns = with_bound(b"columns", count, MAX_COLUMNS);
-    if count > MAX_COLUMNS {
+    let columns = with_bound(b"columns", count, most.columns);
+    if count > most.columns {
         return first_above(&[insts, columns]);
     }
-    let cells = with_bound(
-        b"cells",
-        cell_count(graph) + fields * points_of(graph, space),
-        MAX_CELLS,
-    );
-    first_above(&[insts, cells])
+    let all = cell_count(graph) + fields * points_of(graph, space);
+    let cells = with_bound(b"cells", all, most.cells);
+    first_above(&[insts, cells, spaces(graph, 0)])
 }
 
 /// How many instances a graph has.
@@ -146,11 +143,11 @@ fn is_inst(decl: &Decl) -> bool
 /// How many cells the columns of a graph have.
 fn cell_count(graph: &Graph) -> u64
     ensures count { result ≡ cell_count graph.now }
-    ensures few { result ≤ 1099511627776 }
+    ensures few { result ≤ 17592186044416 }
 {
     let mut count: u64 = 0;
     for c in 0..graph.columns() {
-        count += u64::from(graph.column_space(c).size());
+        count += graph.column_space(c).size();
     }
     count
 }
@@ -158,34 +155,36 @@ fn cell_count(graph: &Graph) -> u64
 /// How many points a space has: none where it is not declared.
 fn points_of(graph: &Graph, s: u32) -> u64
     ensures points { result ≡ space_size (space_at graph.now s) }
-    ensures few { result ≤ 4294967295 }
+    ensures few { result ≤ 4294967296 }
 {
     if s >= graph.spaces() {
         return 0;
     }
-    u64::from(graph.space(s).size())
+    graph.space(s).size()
 }
 
-/// Of a reservation: the reservations.
+/// Of a reservation: the reservations, and the spaces.
 fn of_lock(graph: &Graph, words: &[&[u8]]) -> Option<Quantity>
     ensures { option_map quantity_value result ≡ limit_in graph.now (lock_draft graph.now (drop 1 (contents words.now))) }
 {
     if words.len() != 2 {
         return None;
     }
-    let locks = with_bound(b"reservations", u64::from(graph.locks()) + 1, MAX_LOCKS);
-    first_above(&[locks])
+    let most = Limits::of(graph.format()).locks;
+    let locks = with_bound(b"reservations", u64::from(graph.locks()) + 1, most);
+    first_above(&[locks, spaces(graph, 0)])
 }
 
-/// Of a barrier: the barriers.
+/// Of a barrier: the barriers, and the spaces.
 fn of_barrier(graph: &Graph, words: &[&[u8]]) -> Option<Quantity>
     ensures { option_map quantity_value result ≡ limit_in graph.now (barrier_draft graph.now (drop 1 (contents words.now))) }
 {
     if words.len() != 5 || !is_reduction(word(words, 3)) {
         return None;
     }
-    let barriers = with_bound(b"barriers", u64::from(graph.barriers()) + 1, MAX_BARRIERS);
-    first_above(&[barriers])
+    let most = Limits::of(graph.format()).barriers;
+    let barriers = with_bound(b"barriers", u64::from(graph.barriers()) + 1, most);
+    first_above(&[barriers, spaces(graph, 0)])
 }
 
 /// Whether a word names a reduction.

@@ -1,16 +1,20 @@
 //! Which quantity of a graph a line of words brings above its greatest value.
 
 ghost use Rattle.basics.specs.Words.{contents};
-ghost use Rattle.std.specs.Prelude.{◌≡◌, ℕ, ◌≤◌, List, Some, nat_lt, true, cond, drop, length, find, option_map, IfOk};
+ghost use Rattle.std.specs.Prelude.{◌≡◌, ℕ, ◌+◌, ◌≤◌, List, Some, nat_lt, true, cond, drop, length, find, option_map, IfOk};
 ghost use Rattle.graph_words.specs.Draft.{line_draft, form_of, is_of_form};
 ghost use Rattle.graph_reader.specs.Kinds.{kind_draft};
-ghost use Rattle.refused_words.specs.Limits.{quantity_value, quantity, limit_in, limit_of};
+ghost use Rattle.graph_terms.specs.Format.{has_since};
+ghost use Rattle.graph_terms.specs.Graph.{named_spaces};
+ghost use Rattle.refused_words.specs.Limits.{quantity_value, quantity, spaces_quantity, limit_in, limit_of};
 ghost use Rattle.refused_words.specs.declared.limits.Quantity.{Quantity};
 
 use crate::declared::of_declaration;
 use crate::operations::{of_kind, of_merge};
 use crate::places::is_operation;
 use graph_model::graph::Graph;
+use graph_terms::format::Format;
+use graph_terms::limits::MAX_SPACES;
 use graph_terms::table::Kind;
 use graph_words::words::{behind, kind_of, word};
 use index_spaces::NoMemory;
@@ -26,7 +30,9 @@ pub struct Quantity {
 
 /// The first quantity that is above its bound once what these words spell stands at the end of a
 /// graph. `None` exactly where none is, or the words spell nothing; of the length of the text nothing
-/// is said.
+/// is said. In format 3 the spaces come last: they are limited only in a text that is longer than the
+/// formats before it allow, so they are the cause where a limit refuses the line and no other quantity
+/// is above its bound.
 pub fn passed_limit(
     alloc: Global,
     graph: &Graph,
@@ -48,6 +54,26 @@ pub(crate) fn with_bound(name: &'static [u8], value: u64, bound: u64) -> Quantit
     ensures { quantity_value result ≡ quantity name.now value bound }
 {
     Quantity { name, value, bound }
+}
+
+/// The spaces of a graph with so many more.
+pub(crate) fn spaces(graph: &Graph, more: u64) -> Quantity
+    requires { more ≤ 1 }
+    ensures { quantity_value result ≡ spaces_quantity graph.now.format (length (named_spaces graph.now) + more) }
+{
+    let count = u64::from(graph.spaces()) + more;
+    with_bound(b"spaces", limited_spaces(graph.format(), count), MAX_SPACES)
+}
+
+/// So many spaces, of which none counts before format 3.
+fn limited_spaces(format: Format, count: u64) -> u64
+    ensures { result ≡ cond (has_since Format.Three format) count 0 }
+{
+    if format.has_since(Format::Three) {
+        count
+    } else {
+        0
+    }
 }
 
 /// One where something holds, and else none.

@@ -2,19 +2,19 @@
 
 ghost use Rattle.basics.specs.Words.{contents};
 ghost use Rattle.std.specs.Prelude.{◌≡◌, ℕ, ◌≤◌, ◌+◌, Bool, List, Some, None, codes, drop, length, option_map, is_some};
+ghost use Rattle.graph_terms.specs.Limits.{limits};
 ghost use Rattle.graph_terms.specs.Graph.{is_phase_of};
-ghost use Rattle.graph_terms.specs.Fits.{most_events};
 ghost use Rattle.graph_terms.specs.Edges.{edges, last_place, verb_edges};
 ghost use Rattle.graph_words.specs.Draft.{merge_draft};
 ghost use Rattle.graph_reader.specs.Kinds.{HasPlaces, kind_draft, kind_verb};
 ghost use Rattle.graph_reader.specs.Merges.{merge_verb};
 ghost use Rattle.refused_words.specs.Limits.{quantity_value, quantity, limit_in};
 
-use crate::limits::{Quantity, first_above, one_if, with_bound};
+use crate::limits::{Quantity, first_above, one_if, spaces, with_bound};
 use graph_meaning::laws::edges_between_lines;
-use graph_model::graph::{Graph, most_events};
+use graph_model::graph::Graph;
 use graph_reader::seen::see;
-use graph_terms::limits::{MAX_EDGES, MAX_LINES};
+use graph_terms::limits::{Limits, MAX_EDGES_OF_THREE};
 use graph_terms::table::{Kind, Place};
 use graph_terms::verb::Verb;
 use graph_words::words::{on_events, word};
@@ -28,7 +28,12 @@ pub(crate) fn of_merge(graph: &Graph, words: &[&[u8]]) -> Option<Quantity>
     }
     let count = words.len() as u64 - 1;
     let merged = events(graph, b"events of a merge", count);
-    first_above(&[operations(graph), merged, edges(graph, count)])
+    first_above(&[
+        operations(graph),
+        merged,
+        edges(graph, count),
+        spaces(graph, 0),
+    ])
 }
 
 /// Of a line of a kind, by the words behind the fixed ones.
@@ -39,35 +44,42 @@ pub(crate) fn of_kind(graph: &Graph, kind: Kind, rest: &[&[u8]]) -> Option<Quant
     let count = on_events(graph.format(), kind, rest).len() as u64;
     let given = edges_of_kind(graph, kind, rest) + count;
     let behind = events(graph, b"events behind on", count);
-    first_above(&[operations(graph), behind, edges(graph, given)])
+    first_above(&[
+        operations(graph),
+        behind,
+        edges(graph, given),
+        spaces(graph, 0),
+    ])
 }
 
 /// So many events that a line names.
 fn events(graph: &Graph, name: &'static [u8], count: u64) -> Quantity
-    ensures { quantity_value result ≡ quantity name.now count (most_events graph.now.format) }
+    ensures { quantity_value result ≡ quantity name.now count (limits graph.now.format).events }
 {
-    with_bound(name, count, u64::from(most_events(graph.format())))
+    with_bound(name, count, u64::from(Limits::of(graph.format()).events))
 }
 
 /// The operations of a graph with one more.
 fn operations(graph: &Graph) -> Quantity
-    ensures { quantity_value result ≡ quantity (codes "operations") (length graph.now.lines + 1) MAX_LINES }
+    ensures { quantity_value result ≡ quantity (codes "operations") (length graph.now.lines + 1) (limits graph.now.format).lines }
 {
-    with_bound(b"operations", u64::from(graph.lines()) + 1, MAX_LINES)
+    let most = Limits::of(graph.format()).lines;
+    with_bound(b"operations", u64::from(graph.lines()) + 1, most)
 }
 
 /// The edges of a graph with so many more.
 fn edges(graph: &Graph, more: u64) -> Quantity
     requires { more ≤ 9223372036854775808 }
-    ensures { quantity_value result ≡ quantity (codes "edges") (length (edges graph.now) + more) MAX_EDGES }
+    ensures { quantity_value result ≡ quantity (codes "edges") (length (edges graph.now) + more) (limits graph.now.format).edges }
 {
-    with_bound(b"edges", edge_count(graph) + more, MAX_EDGES)
+    let most = Limits::of(graph.format()).edges;
+    with_bound(b"edges", edge_count(graph) + more, most)
 }
 
 /// How many edges a graph has.
 fn edge_count(graph: &Graph) -> u64
     ensures count { result ≡ length (edges graph.now) }
-    ensures few { result ≤ MAX_EDGES }
+    ensures few { result ≤ MAX_EDGES_OF_THREE }
 {
     edges_between_lines();
     let mut count: u64 = 0;

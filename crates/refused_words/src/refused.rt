@@ -101,7 +101,7 @@ fn refuses(
     match place {
         WordPlace::NewName => Ok(refuses_new(graph, why, word)),
         WordPlace::Fields => refuses_fields(alloc, graph.format(), why, word),
-        WordPlace::Count => Ok(matches!(why, Why::Number) && count(word).is_none()),
+        WordPlace::Count => Ok(matches!(why, Why::Number) && count(graph.format(), word).is_none()),
         WordPlace::Intervals => refuses_intervals(alloc, why, word),
         WordPlace::Event => Ok(refuses_event(graph, why, word)),
         WordPlace::Of(place) => Ok(refuses_of(graph, why, place, word)),

@@ -64,7 +64,9 @@ pub(crate) fn call_over<R: Threads + Wait + Sync + AllocGlobal>(
         Program::Explain { ends, all } => {
             run(alloc, &mut source, &mut sink, ends, all).number()
         },
-        Program::Flow { commute } => serve_flow(alloc, &mut source, &mut sink, commute).number(),
+        Program::Flow { commute, format } => {
+            serve_flow(alloc, &mut source, &mut sink, commute, format).number()
+        }
     };
     Ok(Answer { status, sink })
 }

@@ -4,6 +4,7 @@ use crate::fault::Fault;
 use crate::lines::FileLine;
 use crate::row::{Command, Each, Program, Row, Wanted};
 use crate::texts::{Texts, add_line};
+use graph_terms::format::Format;
 use std::alloc::Global;
 
 /// Where lines of texts belong.
@@ -30,10 +31,22 @@ fn program_of(line: &str) -> Option<Program> {
             ends: false,
             all: true,
         }),
-        ("realm-flow", "") => Some(Program::Flow { commute: false }),
-        ("realm-flow", "--commute") => Some(Program::Flow { commute: true }),
+        ("realm-flow", words) => flow_of(words),
         _ => None,
     }
+}
+
+/// The program that writes flows, with what its words ask for.
+fn flow_of(words: &str) -> Option<Program> {
+    let (commute, format) = match words {
+        "" => (false, Format::One),
+        "--commute" => (true, Format::One),
+        "--format 3" => (false, Format::Three),
+        "--commute --format 3" => (true, Format::Three),
+        "--format 3 --commute" => (true, Format::Three),
+        _ => return None,
+    };
+    Some(Program::Flow { commute, format })
 }
 
 /// The command line of some words.

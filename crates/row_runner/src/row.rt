@@ -1,5 +1,6 @@
 //! What a row says.
 
+use graph_terms::format::Format;
 use std::alloc::Global;
 
 /// The program that a command calls, with what its words ask for.
@@ -7,7 +8,7 @@ use std::alloc::Global;
 pub(crate) enum Program {
     Realm,
     Explain { ends: bool, all: bool },
-    Flow { commute: bool },
+    Flow { commute: bool, format: Format },
 }
 
 /// A command line.

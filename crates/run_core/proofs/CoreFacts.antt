@@ -24,14 +24,14 @@ use Rattle.run_state.specs.WholeLine.{take_whole}
 use Rattle.run_state.specs.Premises.{MayIssue, MayClaim}
 use Rattle.run_state.specs.AtRest.{MayTakeWhole, MayPutBack}
 use Rattle.run_state.specs.Laws.{StartIsSound, StartIsAtRest, IssueKeepsRest, ClaimOfCancelledKeepsRest, TakeKeepsRest, PutBackKeepsRest}
-use Rattle.run_parts.specs.LineEvents.{answer_for, WaitsFor, AreEvents}
+use Rattle.run_parts.specs.LineEvents.{answer_for, WaitsFor, AreEvents, last_gen_for}
 use Rattle.run_core.specs.Core.{CoreValue, unissued, IsCore}
 use Rattle.run_core.specs.Works.{FinishedValue, IsFinished, cells_in}
 use Rattle.run_core.specs.Steps.{with_issue, IsLeft, IsDue, HasLock, HasColumns, with_run, with_end, handle_at, fate_for}
 use Rattle.run_core.proofs.EventFacts.{TellsNew, GoesOnIssued, events_started, events_issued, events_gone, events_ended, events_placed, events_woken}
 
 -- BEFORE ANY LINE IS ISSUED
-pub core_unissued : StartIsSound → StartIsAtRest → (g : GraphValue) (slots : ℕ) → IsGraph g → Accepted g → ((n : ℕ) → IsNeed g n → n ≤ slots) → length (fresh slots (length g.lines) 8191).slots ≡ slots → IsCore (unissued g slots)
+pub core_unissued : StartIsSound → StartIsAtRest → (g : GraphValue) (slots : ℕ) → IsGraph g → Accepted g → ((n : ℕ) → IsNeed g n → n ≤ slots) → length (fresh slots (length g.lines) (last_gen_for (length g.lines))).slots ≡ slots → IsCore (unissued g slots)
 core_unissued sound rest g slots f a enough long = record {
   «sound» = sound g f a;
   at_rest = rest g f a;

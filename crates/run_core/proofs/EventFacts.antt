@@ -19,7 +19,7 @@ use Rattle.event_table.specs.Maps.{IsNow}
 use Rattle.run_state.specs.Run.{LineStage, Unissued, Issued, Ended, stage_at, stage_issued, stage_ended, end_so_far, issued, ended}
 use Rattle.run_state.specs.Start.{start}
 use Rattle.basics.proofs.ListFacts.{contains_none, contains_cases, same_at}
-use Rattle.run_parts.specs.LineEvents.{answer_for, created_in, pending_in, count_left, WaitsFor, AreEvents}
+use Rattle.run_parts.specs.LineEvents.{answer_for, created_in, pending_in, count_left, WaitsFor, AreEvents, last_gen_for}
 
 -- BEFORE ANY LINE IS ISSUED
 pub replicate_at : {X : Type 0} (n i : ℕ) (x : X) → slice_index_or (replicate n x) i x ≡ x
@@ -34,17 +34,17 @@ total_none f x e (suc n) = (let r : total f (replicate n x) ≡ 0 = total_none f
 none_answered : (slots waiters last : ℕ) (h : Handle) → answer (fresh slots waiters last) h ≡ None
 none_answered slots waiters last h = ap (λ (l : SlotLife). answer_in l h.gen_) (replicate_at slots h.slot unused) ∙ in_idle unused h.gen_ refl (omega arith)
 
-pub events_started : (g : GraphValue) (slots : ℕ) → AreEvents g (start g).stages [] (fresh slots (length g.lines) 8191)
+pub events_started : (g : GraphValue) (slots : ℕ) → AreEvents g (start g).stages [] (fresh slots (length g.lines) (last_gen_for (length g.lines)))
 events_started g slots = record {
   waiters = refl;
   last = refl;
   each_issued = λ i. (λ h. absurd (true≢false (sym h ∙ ap stage_issued (same_at Unissued (length g.lines) i))), λ h. absurd (omega arith));
   once = λ a b h e. absurd (none-some h e);
   answers = λ i h e. absurd (none-some h e);
-  only = λ h a e. absurd (none-some a (sym (none_answered slots (length g.lines) 8191 h) ∙ e));
+  only = λ h a e. absurd (none-some a (sym (none_answered slots (length g.lines) (last_gen_for (length g.lines)) h) ∙ e));
   all_created = total_none created_in unused refl slots;
   all_pending = total_none pending_in unused refl slots;
-  waits = λ i h p. absurd (none-some Pending (sym (none_answered slots (length g.lines) 8191 h) ∙ p.pending));
+  waits = λ i h p. absurd (none-some Pending (sym (none_answered slots (length g.lines) (last_gen_for (length g.lines)) h) ∙ p.pending));
 }
 
 -- what a call says of the answers of the table

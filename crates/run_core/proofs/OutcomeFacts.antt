@@ -28,7 +28,7 @@ use Rattle.run_state.specs.Quiet.{Quiet, ByTimes, phase_so_far_by, phase_so_far,
 use Rattle.run_state.specs.Laws.{QuietGivesOutcome, SlotsAreByTimes, ClockIsSmall}
 use Rattle.run_state.proofs.Public.{started_below, ended_started}
 use Rattle.basics.proofs.ListFacts.{got_contains, map_same}
-use Rattle.run_parts.specs.LineEvents.{answer_for}
+use Rattle.run_parts.specs.LineEvents.{answer_for, last_gen_for}
 use Rattle.run_core.specs.Core.{CoreValue, unissued, IsCore}
 use Rattle.run_core.specs.Events.{EventsValue}
 use Rattle.run_core.specs.Answers.{answer_shown, AsksHandles, phase_for, phase_of_line}
@@ -52,12 +52,12 @@ places_first column t zero k = refl
 places_first column t (suc n) k = ap (λ ys. Home (column k).cells ∷ ys) (places_first column t n (k + 1))
 
 pub shown_first : (g : GraphValue) (stages : List Progress) (events : EventsValue) (homes : List (Option ColumnValue)) (takers values : List ℕ) (marks : List Bool) (trace : List ℕ) (slots : ℕ) →
-    stages ≡ replicate (length g.lines) progress.Unissued → events ≡ record { handles = []; table = fresh slots (length g.lines) 8191 } → homes ≡ all_home g zero_cells → takers ≡ replicate (length (columns g)) 0 →
+    stages ≡ replicate (length g.lines) progress.Unissued → events ≡ record { handles = []; table = fresh slots (length g.lines) (last_gen_for (length g.lines)) } → homes ≡ all_home g zero_cells → takers ≡ replicate (length (columns g)) 0 →
     values ≡ map (first_value g) (numbers_below (length g.lines)) → marks ≡ replicate (length g.lines) false → trace ≡ [] →
     shown_core g stages events homes takers values marks trace ≡ unissued g slots
 shown_first g stages events homes takers values marks trace slots s e h t v o r =
     (λ i. shown_core g (s i) (e i) (h i) (t i) (v i) (o i) (r i))
-    ∙ (λ i. core_of g (run_by (no_past g) (map_replicate shown_stage (length g.lines) 0 progress.Unissued i) (places_first (column_of g zero_cells) 0 (length (columns g)) 0 i) (map (first_value g) (numbers_below (length g.lines))) (holders_first g i)) [] (fresh slots (length g.lines) 8191))
+    ∙ (λ i. core_of g (run_by (no_past g) (map_replicate shown_stage (length g.lines) 0 progress.Unissued i) (places_first (column_of g zero_cells) 0 (length (columns g)) 0 i) (map (first_value g) (numbers_below (length g.lines))) (holders_first g i)) [] (fresh slots (length g.lines) (last_gen_for (length g.lines))))
 
 pub kept_first : (g : GraphValue) (homes : List (Option ColumnValue)) (takers : List ℕ) → homes ≡ all_home g zero_cells → takers ≡ replicate (length (columns g)) 0 → AreKept g homes takers
 kept_first g homes takers h t = record {

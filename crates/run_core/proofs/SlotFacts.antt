@@ -1,5 +1,5 @@
 -- A slot is free where a line is left and none of the others can be taken.
-use Rattle.std.proofs.Common.{◌≡◌, ℕ, suc, ◌+◌, ◌<◌, ◌≤◌, Bool, true, false, cond, List, [], ◌∷◌, length, refl, ap, arith}
+use Rattle.std.proofs.Common.{◌≡◌, ℕ, suc, ◌+◌, ◌-◌, ◌<◌, ◌≤◌, Bool, true, false, cond, List, [], ◌∷◌, length, refl, ap, arith}
 use Rattle.std.specs.Prelude.{slice_index_or}
 use Rattle.graph_meaning.specs.Need.{IsNeed}
 use Rattle.basics.specs.Sums.{total}
@@ -41,24 +41,24 @@ stuck_at c core nothing none = record {
   none_taken = none;
 }
 
-pub free_slot : LeftBelowNeed → (c : CoreValue) → IsCore c → NothingOut c → ((i : ℕ) → CanTake c.graph c.run i → ⊥) → IsLeft c → length c.graph.lines ≤ 8192 → (n : ℕ) → IsNeed c.graph n → IsFull c.table → ⊥
-free_slot law c core nothing none left few n need full =
+pub free_slot : LeftBelowNeed → (c : CoreValue) → IsCore c → NothingOut c → ((i : ℕ) → CanTake c.graph c.run i → ⊥) → IsLeft c → (n : ℕ) → IsNeed c.graph n → IsFull c.table → ⊥
+free_slot law c core nothing none left n need full =
     let below : left_among c.run (length c.handles) < n = law c.graph c.run (length c.handles) n core.sound (stuck_at c core nothing none) left need in
     let slots : n ≤ length c.table.slots = core.slots n need in
     let pending : total pending_in c.table.slots ≡ count_left c.run.stages (length c.handles) = core.events.all_pending in
     let each : total pending_in c.table.slots ≡ length c.table.slots =
     total_pending c.table.slots (λ i near. idle_or_pending c.table i (life_at c.table i).is_pending refl near
     (let fates : length (life_at c.table i).fates ≤ length c.handles = created_few c.table (length c.handles) i core.events.all_created near in
-    let last : c.table.last_gen ≡ 8191 = core.events.last in
+    let last : c.table.last_gen ≡ length c.graph.lines - 1 = core.events.last in
     let short : length c.handles < length c.graph.lines = left in
-    omega (arith, fates, last, short, few)) full) in
+    omega (arith, fates, last, short)) full) in
     omega (arith, below, slots, pending, each)
 
 -- no slot is retired while a line is left to issue: it has served less often than lines were issued
-pub none_retired : (c : CoreValue) → IsCore c → length c.graph.lines ≤ 8192 → IsLeft c → (i : ℕ) → IsRetired c.table i → ⊥
-none_retired c core few left i retired =
+pub none_retired : (c : CoreValue) → IsCore c → IsLeft c → (i : ℕ) → IsRetired c.table i → ⊥
+none_retired c core left i retired =
     let fates : length (life_at c.table i).fates ≤ length c.handles = created_few c.table (length c.handles) i core.events.all_created retired.near in
-    let last : c.table.last_gen ≡ 8191 = core.events.last in
+    let last : c.table.last_gen ≡ length c.graph.lines - 1 = core.events.last in
     let over : c.table.last_gen < length (life_at c.table i).fates = retired.over in
     let short : length c.handles < length c.graph.lines = left in
-    absurd (omega (arith, fates, last, over, short, few))
+    absurd (omega (arith, fates, last, over, short))

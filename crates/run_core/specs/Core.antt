@@ -8,8 +8,7 @@ use Rattle.run_state.specs.Run.{Run}
 use Rattle.run_state.specs.Sound.{Sound}
 use Rattle.run_state.specs.AtRest.{AtRest}
 use Rattle.run_state.specs.Start.{start}
-use Rattle.run_parts.specs.declared.limits.TheConstants.{LAST_GEN}
-use Rattle.run_parts.specs.LineEvents.{AreEvents}
+use Rattle.run_parts.specs.LineEvents.{AreEvents, last_gen_for}
 
 -- a graph, the state of its run, the handles of the issued lines in file order, and the table of events
 pub record CoreValue : Type 0 where
@@ -20,7 +19,7 @@ pub record CoreValue : Type 0 where
 
 -- before any line is issued
 abbrev pub unissued : GraphValue → ℕ → CoreValue
-unissued g slots = record { graph = g; run = start g; handles = []; table = fresh slots (length g.lines) LAST_GEN }
+unissued g slots = record { graph = g; run = start g; handles = []; table = fresh slots (length g.lines) (last_gen_for (length g.lines)) }
 
 -- how many slots were given to the run: its table has just so many
 abbrev pub slots_given : CoreValue → ℕ

@@ -8,7 +8,7 @@ ghost use Rattle.event_table.specs.EventMap.{EventMap};
 use crate::lists::filled_within;
 use event_table::limits::MAX_SLOTS;
 use event_table::{Answer, EventTable, Fate, Handle, WatchNow};
-use graph_terms::limits::MAX_LINES;
+use graph_terms::limits::MAX_LINES_OF_THREE;
 use index_spaces::room::push_within;
 use run_parts::{LineState, Stage};
 use std::marker::Model;
@@ -27,7 +27,7 @@ impl Model for LineEvents {
     ghost use Rattle.std.specs.Prelude.{◌≤◌, length};
     ghost use Rattle.std.specs.Vec.{vec_capacity};
     ghost use Rattle.run_core.specs.Events.{EventsValue, AreMarked};
-    ghost use Rattle.graph_terms.specs.declared.limits.TheConstants.{MAX_LINES};
+    ghost use Rattle.graph_terms.specs.declared.limits.TheConstants.{MAX_LINES_OF_THREE};
     ghost use Rattle.event_table.specs.declared.limits.TheConstants.{MAX_SLOTS};
 
     ghost Value = { EventsValue };
@@ -38,7 +38,7 @@ impl Model for LineEvents {
       marked : AreMarked a.table a.busy.items;
       room : a.table.waiters ≤ vec_capacity a.handles;
       each : length a.handles.items ≤ a.table.waiters;
-      waiters : a.table.waiters ≤ MAX_LINES;
+      waiters : a.table.waiters ≤ MAX_LINES_OF_THREE;
       slots : length a.table.slots ≤ MAX_SLOTS;
     } };
 }
@@ -84,7 +84,7 @@ impl LineEvents {
         busy: Vec<bool>,
         lines: u32,
     ) -> LineEvents
-        requires lines { (table.waiters ≡ lines) × (lines ≤ MAX_LINES) }
+        requires lines { (table.waiters ≡ lines) × (lines ≤ MAX_LINES_OF_THREE) }
         requires slots { length table.slots ≤ MAX_SLOTS }
         requires each { length handles.items ≤ lines }
         requires room { (lines ≤ vec_capacity handles) × (lines ≤ vec_capacity busy) }

@@ -16,5 +16,5 @@ pub use answers::Attempt;
 pub use event_table::limits::MAX_SLOTS;
 pub use run::Core;
 pub use run::rest::Resting;
-pub use run_parts::{Issue, LAST_GEN, LineState, RunParts, RunRoom, Stage, StateList, Thing};
+pub use run_parts::{Issue, LineState, RunParts, RunRoom, Stage, StateList, Thing};
 pub use work::{Finished, Work};

@@ -14,7 +14,7 @@ use graph_meaning::laws::needs_are_one;
 use graph_model::graph::Graph;
 use index_spaces::NoMemory;
 use line_effects::homes::Homes;
-use run_parts::{LAST_GEN, OutcomeRoom, Progress, RunRoom};
+use run_parts::{OutcomeRoom, Progress, RunRoom, last_gen_for};
 use run_state::laws::{start_is_at_rest, start_is_sound};
 use std::alloc::Global;
 use std::marker::Model;
@@ -91,7 +91,7 @@ impl<'g> Core<'g> {
         let _ = checked.need();
         let lines = graph.lines();
         let columns = graph.columns();
-        let Ok(table) = EventTable::new(alloc, slots, lines, LAST_GEN) else {
+        let Ok(table) = EventTable::new(alloc, slots, lines, last_gen_for(lines)) else {
             return Err(NoMemory);
         };
         let homes = Homes::zeroed(alloc, graph)?;
@@ -136,6 +136,6 @@ impl<'g> Core<'g> {
         ensures sound { IsCore self.now }
         ensures none_retired { IsLeft self.now → (i : ℕ) → IsRetired self.now.table i → ⊥ }
     {
-        let _ = self.checked.graph().lines();
+        let _stages = &self.stages;
     }
 }

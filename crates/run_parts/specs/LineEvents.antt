@@ -1,5 +1,5 @@
 -- The handles of the issued lines, and how the table that they stand in goes with a state of the run.
-use Rattle.std.specs.Prelude.{◌≡◌, ℕ, ◌+◌, ◌<◌, ◌↔◌, true, not, cond, List, length, Contains, Some, slice_get}
+use Rattle.std.specs.Prelude.{◌≡◌, ℕ, ◌+◌, ◌-◌, ◌<◌, ◌↔◌, true, not, cond, List, length, Contains, Some, slice_get}
 use Rattle.graph_terms.specs.declared.outcome.End.{End}
 use Rattle.graph_terms.specs.declared.outcome.End.TheVariants.{Done, Faulted, Cancelled, Waiting}
 use Rattle.graph_terms.specs.declared.verb.Edge.{Edge}
@@ -12,7 +12,6 @@ use Rattle.basics.specs.Sums.{total}
 use Rattle.basics.specs.Lists.{count_below}
 use Rattle.event_table.specs.EventMap.{EventMap, SlotLife, answer, IsPlaced}
 use Rattle.run_state.specs.Run.{LineStage, stage_at, end_so_far, issued, ended}
-use Rattle.run_parts.specs.declared.limits.TheConstants.{LAST_GEN}
 
 -- what the handle of a line with this end answers
 abbrev pub answer_for : End → Answer
@@ -36,11 +35,15 @@ WaitsFor g i j = (e : Edge) × Contains (edges g) e × (e.from ≡ j) × (e.to �
 abbrev pub count_left : List LineStage → ℕ → ℕ
 count_left stages k = count_below (λ i. not (ended stages i)) k
 
+-- the last generation of a slot in a run of so many lines
+abbrev pub last_gen_for : ℕ → ℕ
+last_gen_for lines = lines - 1
+
 -- the handles of the issued lines, and the table that they stand in
 pub record AreEvents (g : GraphValue) (stages : List LineStage) (handles : List Handle) (table : EventMap) : Type 0 where
-  -- the table has a waiter for each line, and 8,192 generations for each slot
+  -- the table has a waiter for each line, and for each slot as many generations as there are lines
   pub waiters : table.waiters ≡ length g.lines
-  pub last : table.last_gen ≡ LAST_GEN
+  pub last : table.last_gen ≡ last_gen_for (length g.lines)
   -- the first lines are issued, one for each handle, and the handles differ
   pub each_issued : (i : ℕ) → (issued stages i ≡ true) ↔ (i < length handles)
   pub once : (a b : ℕ) (h : Handle) → slice_get handles a ≡ Some h → slice_get handles b ≡ Some h → a ≡ b

@@ -11,7 +11,7 @@ mod room;
 mod states;
 
 pub use answers::{Issue, Stage, Thing};
-pub use limits::LAST_GEN;
+pub use limits::last_gen_for;
 pub use locks::LockState;
 pub use parts::RunParts;
 pub use progress::Progress;

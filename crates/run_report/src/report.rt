@@ -17,7 +17,7 @@ use graph_terms::outcome::{Answer, End, Outcome};
 use graph_terms::verb::{Line, Verb};
 use graph_writer::{put_column_name, put_interval};
 use index_spaces::column::Column;
-use index_spaces::limits::MAX_POINTS;
+use index_spaces::limits::MAX_POINTS_OF_THREE;
 use itoa::Buffer;
 use realm_io::{Sink, WriteFault, put_bytes};
 
@@ -125,17 +125,18 @@ fn put_cell<K: Sink>(sink: &mut K, buffer: &mut Buffer, cell: u64) -> Result<(),
 }
 
 /// Writes the cells of the points of these ranks, each with a space before it.
-fn put_cells<K: Sink>(sink: &mut K, column: &Column, first: u32, end: u32) -> Result<(), WriteFault>
+fn put_cells<K: Sink>(sink: &mut K, column: &Column, first: u64, end: u64) -> Result<(), WriteFault>
     requires ordered { first ≤ end }
     requires within { end ≤ length column.now.cells }
     requires full { length column.now.cells ≡ space_size column.now.space }
     ensures { Writes (K.state sink.old) (K.state sink.new) result
         (flat_map (λ v. 32 ∷ decimal v) (take (end - first) (drop first column.now.cells))) }
 {
+    let _ = column.space().size();
     // one for all cells, since there may be millions of them
     let mut buffer = Buffer::new();
     for rank in first..end {
-        put_cell(sink, &mut buffer, column.at(rank))?;
+        put_cell(sink, &mut buffer, column.at(rank as u32))?;
     }
     Ok(())
 }
@@ -147,8 +148,8 @@ fn put_interval_line<K: Sink>(
     field: &Name,
     interval: (u32, u32),
     column: &Column,
-    first: u32,
-    end: u32,
+    first: u64,
+    end: u64,
 ) -> Result<(), WriteFault>
     requires long { end ≡ first + (interval.1 + 1 - interval.0) }
     requires within { end ≤ length column.now.cells }
@@ -170,7 +171,7 @@ fn put_intervals<K: Sink>(
     intervals: &[(u32, u32)],
 ) -> Result<(), WriteFault>
     requires is_space { IsSpace intervals.now }
-    requires small { space_size intervals.now ≤ MAX_POINTS }
+    requires small { space_size intervals.now ≤ MAX_POINTS_OF_THREE }
     requires full { length column.now.cells ≡ space_size intervals.now }
     requires over { column.now.space ≡ intervals.now }
     ensures { Writes (K.state sink.old) (K.state sink.new) result
@@ -178,7 +179,7 @@ fn put_intervals<K: Sink>(
 {
     let mut first = 0;
     for interval in intervals {
-        let end = first + (interval.1 - interval.0) + 1;
+        let end = first + u64::from(interval.1 - interval.0) + 1;
         put_interval_line(sink, inst, field, *interval, column, first, end)?;
         first = end;
     }

@@ -68,10 +68,10 @@ fn wake_all(core: &mut Core)
 fn drive(core: &mut Core, order: Order) -> u32
     ensures { SameOut core.old core.new }
 {
-    let mut ended = 0;
+    let mut ended = 0u32;
     for _turn in 0..core.graph().lines() {
         issue_all(core);
-        ended += take_from(core, order, 0);
+        ended = ended.saturating_add(take_from(core, order, 0));
         wake_all(core);
     }
     ended

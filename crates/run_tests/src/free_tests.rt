@@ -43,7 +43,7 @@ const KINDS: [Kind; 10] = [
     Kind::Queue(8),
     Kind::Rounds,
     Kind::Nothing,
-    Kind::NoLine(8192),
+    Kind::NoLine(65536),
     Kind::NoLine(4294967295),
     Kind::First,
     Kind::Last,

@@ -29,9 +29,9 @@ const ROWS: [Row; 4] = [
         pops: &[Some(0), None],
     },
     Row {
-        lines: 8192,
-        pushes: &[8192, 8191, 0, 8191],
-        pops: &[Some(8191), Some(0), Some(8191), None],
+        lines: 65536,
+        pushes: &[65536, 65535, 0, 65535],
+        pops: &[Some(65535), Some(0), Some(65535), None],
     },
     Row {
         lines: 2,
@@ -58,8 +58,8 @@ fn push_each<R: Wait, H: Hints>(rt: &R, hints: &mut H, lines: &[u32]) {
 
 /// Whether a row comes out, and after it a hint from the second worker to the first.
 fn comes_out<R: Wait + AllocGlobal>(rt: &R, row: Row) -> Result<bool, Fail> {
-    if row.lines == 0 || row.lines > 8192 {
-        return Err("a bound from 1 to 8,192".into());
+    if row.lines == 0 || row.lines > 65536 {
+        return Err("a bound from 1 to 65,536".into());
     }
     let (queue, pass) = HintQueue::new(rt.alloc(), row.lines)?;
     let mut list = queue.hints(rt.alloc(), pass, 2)?;

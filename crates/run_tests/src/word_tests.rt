@@ -106,10 +106,10 @@ fn drive(words: &Words, seat: &mut WordSeat, order: Order) -> u32
     ensures at { IsAt words.now seat.new }
     ensures back { Rejoined seat.old seat.new }
 {
-    let mut ended = 0;
+    let mut ended = 0u32;
     for _turn in 0..words.graph().lines() {
         issue_all(words, seat);
-        ended += take_from(words, seat, order, 0);
+        ended = ended.saturating_add(take_from(words, seat, order, 0));
     }
     ended
 }

@@ -99,8 +99,8 @@ module _ (g : GraphValue) (e : Events) (s : St) (o : Shown g e s) (id : ℕ) (v 
   abbrev r : ℕ
   r = get_or s.words (clock_word (size_of g)) 0
 
-  pub draw_rule : length g.lines ≤ 8192 → cl.ends ≡ None → cl.time ≡ None → ((l : ℕ) → Acquires g i l → eval_end g i ≢ Cancelled → cl.holds ≡ true)
-      → Shown g e (board (set s.words (clock_word (size_of g)) ((r + 1) % 2 ^ 64)) s.homes (set s.views id (with_claim v (drawn r cl)))) × (r ≤ 8192)
+  pub draw_rule : length g.lines ≤ 65536 → cl.ends ≡ None → cl.time ≡ None → ((l : ℕ) → Acquires g i l → eval_end g i ≢ Cancelled → cl.holds ≡ true)
+      → Shown g e (board (set s.words (clock_word (size_of g)) ((r + 1) % 2 ^ 64)) s.homes (set s.views id (with_claim v (drawn r cl)))) × (r ≤ 65536)
   draw_rule few going untimed held =
       let w : View = with_claim v (drawn r cl) in
       let z = size_of g in
@@ -182,7 +182,7 @@ pub arrives_allow : (g : GraphValue) (e : Events) (slots id p x : ℕ) (o' : Op)
 arrives_allow g e slots id p x o' f m cl by has near_p going brings real new barrier s o wide me low =
     (with_claim m.0 (put_in cl), keeps, tt, arrive_rule g e s o id m.0 me cl has o' p x f by near_p going brings real new barrier, ap (λ (y : View). sat y m.1) (on_claimed put_in m.0 cl has))
 
-pub draws_allow : (g : GraphValue) (e : Events) (slots id : ℕ) (m : Sat) (cl : Claim) → m.0.claim ≡ Some cl → length g.lines ≤ 8192 → cl.ends ≡ None → cl.time ≡ None → ((l : ℕ) → Acquires g cl.line l → eval_end g cl.line ≢ Cancelled → cl.holds ≡ true)
+pub draws_allow : (g : GraphValue) (e : Events) (slots id : ℕ) (m : Sat) (cl : Claim) → m.0.claim ≡ Some cl → length g.lines ≤ 65536 → cl.ends ≡ None → cl.time ≡ None → ((l : ℕ) → Acquires g cl.line l → eval_end g cl.line ≢ Cancelled → cl.holds ≡ true)
     → Allows (Shown g e) slots id m (clock_word (size_of g)) (λ n. (n + 1) % 2 ^ 64) (draws m)
 draws_allow g e slots id m cl has few going untimed held s o wide me low =
     let d = draw_rule g e s o id m.0 me cl has few going untimed held in

@@ -92,7 +92,7 @@ module _ (g : GraphValue) (e : Events) (s : St) (o : Shown g e s) (id : ℕ) (v 
   left_alone : (q : ℕ) → is_listed ks q ≡ true → shared q ≡ false → 0 ≡ lock_code g (without q ks)
   left_alone q held own = sym (ap (lock_code g) (none_in (without q ks) (λ k h. let w = listed_without q k ks h in w.1 (only q held own k w.0))) ∙ code_none g)
 
-  left_shared : length g.lines ≤ 8192 → (q : ℕ) → is_listed ks q ≡ true → shared q ≡ true → (get_or s.words (lock_word (size_of g) l) 0 + (2 ^ 64 - 1)) % 2 ^ 64 ≡ lock_code g (without q ks)
+  left_shared : length g.lines ≤ 65536 → (q : ℕ) → is_listed ks q ≡ true → shared q ≡ true → (get_or s.words (lock_word (size_of g) l) 0 + (2 ^ 64 - 1)) % 2 ^ 64 ≡ lock_code g (without q ks)
   left_shared few q held own =
       let qs : List ℕ = without q ks in
       let now : get_or s.words (lock_word (size_of g) l) 0 ≡ count_below (is_listed ks) (length g.lines) = shown ∙ code_shared g ks (all_shared g ks (all q held own)) in
@@ -157,7 +157,7 @@ module _ (g : GraphValue) (e : Events) (s : St) (o : Shown g e s) (id : ℕ) (v 
       taken (r + 1) going acquires real (λ k h. and_from (shared i) (shared k) own (each k h))
       (sym (code_shared g qs (all_shared g qs (λ k h. elim (inserted_cases i k ks h) [ inl e ↦ ap shared e ∙ own | inr m ↦ each k m ])) ∙ (more ∙ ap (λ n. n + 1) sharing.1)))
 
-  pub not_held : length g.lines ≤ 8192 → NotHeld v (get_or s.words (lock_word (size_of g) l) 0)
+  pub not_held : length g.lines ≤ 65536 → NotHeld v (get_or s.words (lock_word (size_of g) l) 0)
   not_held few d had not own =
       let same : cl ≡ d = same_Some cl d (sym has ∙ had) in
       let listed = code_names g ks i few (sym shown ∙ (own ∙ ap (λ (y : Claim). alone_code y.line) (sym same))) in
@@ -228,7 +228,7 @@ module _ (g : GraphValue) (e : Events) (slots id l : ℕ) (m : Sat) (cl : Claim)
   abbrev word : ℕ
   word = lock_word (size_of g) l
 
-  pub holds_allow : length g.lines ≤ 8192 → cl.ends ≡ None → Acquires g cl.line l → eval_end g cl.line ≢ Cancelled → line_passes is_shared g cl.line ≡ false
+  pub holds_allow : length g.lines ≤ 65536 → cl.ends ≡ None → Acquires g cl.line l → eval_end g cl.line ≢ Cancelled → line_passes is_shared g cl.line ≡ false
       → Allows (Shown g e) slots id m word (λ n. either (n == 0) (alone_code cl.line) n) (holds word m)
   holds_allow few going acquires real own s o wide me low =
       let v = m.0 in
@@ -282,7 +282,7 @@ module _ (g : GraphValue) (e : Events) (slots id l : ℕ) (m : Sat) (cl : Claim)
     pub lets_go_alone : line_passes is_shared g cl.line ≡ false → Allows (Shown g e) slots id m word (λ _. 0) (λ _. lets_go m)
     lets_go_alone own s o wide me low = went s o me 0 (left_alone g e s o id m.0 me l cl has near cl.line (has_it s o me) own)
 
-    pub lets_go_shared : length g.lines ≤ 8192 → line_passes is_shared g cl.line ≡ true → Allows (Shown g e) slots id m word (λ n. (n + (2 ^ 64 - 1)) % 2 ^ 64) (λ _. lets_go m)
+    pub lets_go_shared : length g.lines ≤ 65536 → line_passes is_shared g cl.line ≡ true → Allows (Shown g e) slots id m word (λ n. (n + (2 ^ 64 - 1)) % 2 ^ 64) (λ _. lets_go m)
     lets_go_shared few own s o wide me low = went s o me ((get_or s.words word 0 + (2 ^ 64 - 1)) % 2 ^ 64) (left_shared g e s o id m.0 me l cl has near few cl.line (has_it s o me) own)
 
   -- freed, by the release of an exclusive and of a shared acquire
@@ -297,5 +297,5 @@ module _ (g : GraphValue) (e : Events) (slots id l : ℕ) (m : Sat) (cl : Claim)
     pub frees_alone : line_passes is_shared g q ≡ false → Allows (Shown g e) slots id m word (λ _. 0) (λ _. frees m)
     frees_alone own s o wide me low = let_free s o me 0 (left_alone g e s o id m.0 me l cl has near q (held_by s o me) own)
 
-    pub frees_shared : length g.lines ≤ 8192 → line_passes is_shared g q ≡ true → Allows (Shown g e) slots id m word (λ n. (n + (2 ^ 64 - 1)) % 2 ^ 64) (λ _. frees m)
+    pub frees_shared : length g.lines ≤ 65536 → line_passes is_shared g q ≡ true → Allows (Shown g e) slots id m word (λ n. (n + (2 ^ 64 - 1)) % 2 ^ 64) (λ _. frees m)
     frees_shared few own s o wide me low = let_free s o me ((get_or s.words word 0 + (2 ^ 64 - 1)) % 2 ^ 64) (left_shared g e s o id m.0 me l cl has near few q (held_by s o me) own)

@@ -85,7 +85,7 @@ module _ (g : GraphValue) where
   ]
 
   -- the word of a line that holds alone names it
-  pub code_names : (ks : List ℕ) (q : ℕ) → length g.lines ≤ 8192 → lock_code g ks ≡ alone_code q → is_listed ks q ≡ true
+  pub code_names : (ks : List ℕ) (q : ℕ) → length g.lines ≤ 65536 → lock_code g ks ≡ alone_code q → is_listed ks q ≡ true
   code_names ks q few h = elim (code_cases ks) [
     | inl a ↦ (let e : alone_code a.0 ≡ alone_code q = sym a.2 ∙ h in let same : a.0 ≡ q = omega (arith, e) in subst (λ x. is_listed ks x ≡ true) same (alone_is ks a.0 a.1).0)
     | inr c ↦ (let e : counted ks ≡ alone_code q = sym c.1 ∙ h in let most : counted ks ≤ length g.lines = count_below-max (is_listed ks) (length g.lines) in absurd (omega (arith, e, most, few)))

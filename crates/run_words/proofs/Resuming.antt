@@ -26,7 +26,7 @@ use Rattle.run_state.specs.Run.{LineStage, Unissued, Issued, Out, Ending, Ended,
 use Rattle.run_state.proofs.Public.{stage_there}
 use Rattle.run_state.proofs.QuietTrace.{clock_small}
 use Rattle.run_state.proofs.Told.{kept_is_ended}
-use Rattle.run_parts.specs.LineEvents.{AreEvents, answer_for}
+use Rattle.run_parts.specs.LineEvents.{AreEvents, answer_for, last_gen_for}
 use Rattle.run_parts.specs.Shown.{stage_of, LinesShow, HomesShow, PhasesShow, IsShown}
 use Rattle.run_parts.specs.declared.states.LineState.{LineState}
 use Rattle.run_words.proofs.CreatedCounts.{created_count}
@@ -121,7 +121,7 @@ phase_none None n other = refl
 phase_none (Some v) n other = phase_value v n (λ b is. other b (ap Some is))
 
 -- WHAT IS READ OF ALL
-module _ (g : GraphValue) (e : Events) (v : View) (run : Run) (handles : List Handle) (words : List ℕ) (slots : List Content) (l : IsLeft g e v run handles words slots) (few : length g.lines ≤ 8192) where
+module _ (g : GraphValue) (e : Events) (v : View) (run : Run) (handles : List Handle) (words : List ℕ) (slots : List Content) (l : IsLeft g e v run handles words slots) (few : length g.lines ≤ 65536) where
   issued_below : (i : ℕ) → issued run.stages i ≡ true → i < length g.lines
   issued_below i is = subst (λ n. i < n) l.sound.on_lines.each_line (stage_there run.stages i is)
 
@@ -162,7 +162,7 @@ module _ (g : GraphValue) (e : Events) (v : View) (run : Run) (handles : List Ha
   module _ (m : EventMap) (s : their.View) (settled : (i : ℕ) (x : Content) → i < length g.lines → get_elem? slots (line_slot (size_of g) i) ≡ some x → IsSettled s x)
       (left : (k : Handle) → Contains s.left k → answer m k ≡ Some StillPending) (known : (k : Handle) (f : Fate) → Knows s k f → answer m k ≡ Some (answer_of f))
       (made : (h : Handle) → Contains handles h → (a : Answer) × (answer m h ≡ Some a)) (only : (h : Handle) (a : Answer) → answer m h ≡ Some a → Contains handles h)
-      (waiters : m.waiters ≡ length g.lines) (last : m.last_gen ≡ 8191) (free : (i k : ℕ) → Contains (life_at m i).waiting k → ⊥)
+      (waiters : m.waiters ≡ length g.lines) (last : m.last_gen ≡ last_gen_for (length g.lines)) (free : (i k : ℕ) → Contains (life_at m i).waiting k → ⊥)
     where
       answers : (i : ℕ) (h : Handle) → slice_get handles i ≡ Some h → answer m h ≡ Some (answer_for (end_so_far (stage_at run.stages i)))
       answers i h at =

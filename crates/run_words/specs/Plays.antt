@@ -2,6 +2,7 @@
 use Rattle.std.specs.Prelude.{◌≡◌, ◌≢◌, ℕ, zero, suc, ◌+◌, ◌-◌, ◌<◌, ◌≤◌, nat_lt, cond, Bool, true, false, List, [], ◌∷◌, ◌++◌, length, Contains, IsTrue, Option, Some, None, option_map, slice_get}
 use Rattle.atomic_table.specs.Table.{Me, rest}
 use Rattle.basics.specs.Lists.{numbers_below}
+use Rattle.graph_terms.specs.declared.limits.TheConstants.{MAX_LINES_OF_THREE}
 use Rattle.graph_terms.specs.declared.outcome.End.{End}
 use Rattle.graph_terms.specs.declared.outcome.End.TheVariants.{Done, Faulted, Cancelled, Waiting}
 use Rattle.graph_meaning.specs.Path.{HasPath}
@@ -199,7 +200,7 @@ drawn t cl = record cl { time = Some t; stored = false }
 
 -- the clock held r, which is the time that was drawn
 abbrev pub draws : Sat → ℕ → Sat → Type 0
-draws m r n = (n ≡ (on_claim (drawn r) m.0, m.1)) × (r ≤ 8192)
+draws m r n = (n ≡ (on_claim (drawn r) m.0, m.1)) × (r ≤ MAX_LINES_OF_THREE)
 
 -- its time is stored
 abbrev pub has_stored : Claim → Claim

@@ -10,7 +10,7 @@ use graph_model::graph::Graph;
 use index_spaces::NoMemory;
 use index_spaces::room::with_room;
 use line_effects::homes::Homes;
-use run_parts::{LAST_GEN, LineState, RunRoom};
+use run_parts::{LineState, RunRoom, last_gen_for};
 use std::alloc::Global;
 
 /// Room for what a run leaves, asked for before the run begins so that its end takes no memory: for
@@ -33,7 +33,7 @@ impl ClosingRoom {
         ensures home { IfOk result (λ s. s.homes ≡ all_home graph.now zero_cells) }
     {
         let lines = graph.lines();
-        let Ok(table) = EventTable::new(alloc, slots, lines, LAST_GEN) else {
+        let Ok(table) = EventTable::new(alloc, slots, lines, last_gen_for(lines)) else {
             return Err(NoMemory);
         };
         let states = with_room(alloc, lines as usize)?;

@@ -4,6 +4,7 @@ ghost use Rattle.std.specs.Prelude.{◌≡◌, ◌+◌, ◌-◌, ◌≢◌, ◌<
 ghost use Rattle.std.specs.Vec.{vec_capacity};
 ghost use Rattle.index_spaces.specs.Column.{ColumnValue};
 ghost use Rattle.graph_meaning.specs.Effect.{zero_cells};
+ghost use Rattle.graph_terms.specs.declared.limits.TheConstants.{MAX_LINES_OF_THREE};
 ghost use Rattle.graph_terms.specs.Graph.{columns as graph_columns};
 ghost use Rattle.line_effects.specs.Homes.{all_home};
 ghost use Rattle.run_state.specs.Start.{first_value};
@@ -226,7 +227,7 @@ fn new_issue_turn(
     lines: u32,
 ) -> Result<(Events, IssueState, Seat), NoMemory>
     requires slots { (0 < slots) × (slots ≤ 8192) }
-    requires lines { lines ≤ 8192 }
+    requires lines { lines ≤ MAX_LINES_OF_THREE }
     ensures shape { IfOk result (λ r. ((shape_of r.0).slots ≡ slots) × ((shape_of r.0).waiters ≡ lines)
         × ((shape_of r.0).last_gen ≡ lines - slots)) }
     ensures issue_state { IfOk result (λ r. IsIssueState r.0 lines [] r.1) }

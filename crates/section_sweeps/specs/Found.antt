@@ -2,12 +2,12 @@
 use Rattle.std.specs.Prelude.{◌≡◌, ℕ, ◌<◌, Bool, false, List, length, slice_index}
 use Rattle.graph_terms.specs.Graph.{GraphValue}
 use Rattle.graph_terms.specs.Reservations.{Acquires, Releases}
-use Rattle.graph_meaning.specs.Rules.{ReleasedAt, SectionAt, DescendsAt}
+use Rattle.graph_meaning.specs.Rules.{ReleasedAt, SectionAt, DescendsAt, Section}
 use Rattle.race_sweeps.specs.Settled.{is_noted}
 use Rattle.section_sweeps.specs.declared.found_sections.Found.{Found}
 use Rattle.section_sweeps.specs.declared.found_sections.Sections.{Sections}
 use Rattle.section_sweeps.specs.declared.found_sections.Sections.TheVariants.{Kept, Doubted}
-use Rattle.section_sweeps.specs.Sections.{AreSections, AreHeldSoFar, IsSectionKept}
+use Rattle.section_sweeps.specs.Sections.{AreSections, AreHeldSoFar, IsKept}
 
 -- the rules of sections hold of an acquire
 pub record IsSound (g : GraphValue) (q : ℕ) : Type 0 where
@@ -23,9 +23,10 @@ abbrev pub AreSectionsFound : GraphValue → Sections → Type 0
 AreSectionsFound g (Kept held) = AreSections g held
 AreSectionsFound g (Doubted doubted) = (length doubted.items ≡ length g.lines) × AreDoubted g doubted.items
 
--- the sections of the acquires before place m are kept, or the acquires are doubted
+-- the rules hold of the acquires before place m that are not doubted, and where none is doubted their sections are kept
 pub record AreFound (g : GraphValue) (places : List ℕ) (f : Found) (m : ℕ) : Type 0 where
   pub size : length f.doubted.items ≡ length g.lines
   pub held : AreHeldSoFar g f.held
-  pub kept : (q l : ℕ) → Acquires g q l → slice_index places q < m → is_noted f.doubted.items q ≡ false → IsSectionKept g f.held q
+  pub sound : (q l : ℕ) → Acquires g q l → slice_index places q < m → is_noted f.doubted.items q ≡ false → IsSound g q
+  pub kept : f.is_doubted ≡ false → (q l i : ℕ) → slice_index places q < m → Section g l q i → IsKept f.held l i
   pub sure : f.is_doubted ≡ false → (q : ℕ) → is_noted f.doubted.items q ≡ false

@@ -1,7 +1,6 @@
 -- The rules of reservations, and in which sections the lines lie.
-use Rattle.std.specs.Prelude.{◌≡◌, ℕ, length, Option, Some, None, Vec, slice_get}
-use Rattle.std.specs.Global.{Global}
-use Rattle.graph_terms.specs.Graph.{GraphValue, locks}
+use Rattle.std.specs.Prelude.{◌≡◌, ℕ, length, Some, None}
+use Rattle.graph_terms.specs.Graph.{GraphValue}
 use Rattle.graph_meaning.specs.Rules.{Everywhere, EverywhereTwice, ReleasedAt, SectionAt, DescendsAt, Section}
 use Rattle.graph_terms.specs.Reservations.{Releases}
 use Rattle.race_sweeps.specs.declared.line_sections.Held.{Held}
@@ -18,10 +17,9 @@ pub record AreSections (g : GraphValue) (h : Held) : Type 0 where
 abbrev pub IsKept : Held → ℕ → ℕ → Type 0
 IsKept h l i = acquire_in h l i ≡ None → ⊥
 
--- there is a row for each reservation, and what is kept is so
+-- there is a list for each line, and what is kept is so
 pub record AreHeldSoFar (g : GraphValue) (h : Held) : Type 0 where
-  pub count : length h.acquires.items ≡ length (locks g)
-  pub size : (l : ℕ) (row : Vec (Option ℕ) Global) → slice_get h.acquires.items l ≡ Some row → length row.items ≡ length g.lines
+  pub size : length h.lines.items ≡ length g.lines
   pub is : (l i q : ℕ) → acquire_in h l i ≡ Some q → Section g l q i
 
 -- what was kept is kept still

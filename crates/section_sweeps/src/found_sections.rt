@@ -67,7 +67,8 @@ impl Found {
     }
 
     /// Tries the rules at the next acquires from a place on, keeps those in whose sections lines
-    /// lie, or doubts them, and gives the place behind them.
+    /// lie, or doubts them, and gives the place behind them. What was kept is asked for only where
+    /// none is doubted, so it goes with the first doubt.
     fn pass(
         &mut self,
         alloc: Global,
@@ -85,10 +86,11 @@ impl Found {
         ensures found { IfOk result (AreFound graph.now table.now.places.items self.new) }
     {
         let end = group.gather(graph, table, start)?;
-        if group.passes(graph, table, &mut self.held, start) {
+        if group.passes(graph, table, &mut self.held, start)? {
             return Ok(end);
         }
         self.doubt(group.acquires.as_slice());
+        self.held = nothing_kept(alloc, graph)?;
         *group = Group::new(alloc, graph)?;
         Ok(end)
     }

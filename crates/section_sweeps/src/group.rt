@@ -59,27 +59,27 @@ impl Group {
         table: &Table,
         held: &mut Held,
         start: u32,
-    ) -> bool
+    ) -> Result<bool, NoMemory>
         requires table { IsTable graph.now table.now }
         requires start { start < length graph.now.lines }
         requires cleared { IsCleared (length graph.now.lines) self.old }
         requires few { length self.old.acquires.items ≤ 64 }
         requires known { AreKnownFrom graph.now table.now.places.items self.old.acquires.items start }
         requires held { AreHeldSoFar graph.now held.old }
-        ensures held { AreHeldSoFar graph.now held.new }
-        ensures grown { IsGrown held.old held.new }
+        ensures held { OnOk result (AreHeldSoFar graph.now held.new) }
+        ensures grown { OnOk result (IsGrown held.old held.new) }
         ensures acquires { self.new.acquires ≡ self.old.acquires }
-        ensures cleared { IsTrue result → IsCleared (length graph.now.lines) self.new }
-        ensures kept { IsTrue result → (b : ℕ) → b < length self.old.acquires.items → IsSectionKept graph.now held.new (slice_index self.old.acquires.items b) }
+        ensures cleared { IfOk result (λ b. IsTrue b → IsCleared (length graph.now.lines) self.new) }
+        ensures kept { IfOk result (λ passes. IsTrue passes → (b : ℕ) → b < length self.old.acquires.items → IsSectionKept graph.now held.new (slice_index self.old.acquires.items b)) }
     {
         let Some(range) = self.sweep(graph, table, start) else {
-            return false;
+            return Ok(false);
         };
-        if !self.keeps_rules(graph, table, held, range) {
-            return false;
+        if !self.keeps_rules(graph, table, held, range)? {
+            return Ok(false);
         }
         self.clear(graph, table, range);
-        true
+        Ok(true)
     }
 
     /// Takes the next acquires from a place on, and gives the place behind them.
@@ -187,43 +187,49 @@ impl Group {
     }
 
     /// Whether the lines of a range keep the rules; keeps the acquires in whose sections they lie.
-    fn keeps_rules(&self, graph: &Graph, table: &Table, held: &mut Held, range: Range) -> bool
+    fn keeps_rules(
+        &self,
+        graph: &Graph,
+        table: &Table,
+        held: &mut Held,
+        range: Range,
+    ) -> Result<bool, NoMemory>
         requires table { IsTable graph.now table.now }
         requires swept { IsSwept graph.now table.now.places.items self.now range.low range.high }
         requires held { AreHeldSoFar graph.now held.old }
-        ensures held { AreHeldSoFar graph.now held.new }
-        ensures grown { IsGrown held.old held.new }
-        ensures passed { IsTrue result → (i : ℕ) → i < length graph.now.lines → range.low ≤ slice_index table.now.places.items i → slice_index table.now.places.items i < range.high → IsPassed graph.now self.now held.new i }
+        ensures held { OnOk result (AreHeldSoFar graph.now held.new) }
+        ensures grown { OnOk result (IsGrown held.old held.new) }
+        ensures passed { IfOk result (λ b. IsTrue b → (i : ℕ) → i < length graph.now.lines → range.low ≤ slice_index table.now.places.items i → slice_index table.now.places.items i < range.high → IsPassed graph.now self.now held.new i) }
     {
         for place in range.low..range.high {
-            if !self.keeps_rules_at(graph, held, table.lines[place as usize]) {
-                return false;
+            if !self.keeps_rules_at(graph, held, table.lines[place as usize])? {
+                return Ok(false);
             }
         }
-        true
+        Ok(true)
     }
 
     /// Whether a line keeps the rules; keeps the acquires in whose sections it lies.
-    fn keeps_rules_at(&self, graph: &Graph, held: &mut Held, line: u32) -> bool
+    fn keeps_rules_at(&self, graph: &Graph, held: &mut Held, line: u32) -> Result<bool, NoMemory>
         requires line { line < length graph.now.lines }
         requires swept { (places : List ℕ) × (low : ℕ) × (high : ℕ) × IsSwept graph.now places self.now low high }
         requires held { AreHeldSoFar graph.now held.old }
-        ensures held { AreHeldSoFar graph.now held.new }
-        ensures grown { IsGrown held.old held.new }
-        ensures passed { IsTrue result → IsPassed graph.now self.now held.new line }
+        ensures held { OnOk result (AreHeldSoFar graph.now held.new) }
+        ensures grown { OnOk result (IsGrown held.old held.new) }
+        ensures passed { IfOk result (λ b. IsTrue b → IsPassed graph.now self.now held.new line) }
     {
         if self.outside(graph, line) != 0 {
-            return false;
+            return Ok(false);
         }
         let inside = self.behind.passed(line) & self.to_releases.passed(line);
         if inside == 0 {
-            return true;
+            return Ok(true);
         }
         if !descends(graph, self.acquires.as_slice(), line, inside) {
-            return false;
+            return Ok(false);
         }
-        keep_all(held, graph, self.acquires.as_slice(), line, inside);
-        true
+        keep_all(held, graph, self.acquires.as_slice(), line, inside)?;
+        Ok(true)
     }
 
     /// The acquires to whose releases a line has a path, though it neither is nor has a path to

@@ -22,6 +22,7 @@ use crate::lookups::Table;
 use graph_model::graph::Graph;
 use index_spaces::NoMemory;
 use index_spaces::room::filled;
+use race_sweeps::line_sections::Held;
 use std::alloc::Global;
 
 /// Whether each acquire is released behind it, what comes before a release lies before its acquire
@@ -32,6 +33,10 @@ pub fn held_sections(alloc: Global, graph: &Graph, order: &[u32]) -> Result<Sect
     ensures { IfOk result (AreSectionsFound graph.now) }
 {
     let lines = graph.lines() as usize;
+    if graph.locks() == 0 {
+        let held = Held::new(alloc, 0)?;
+        return Ok(Sections::Kept(held));
+    }
     if order.len() != lines {
         let doubted = filled(alloc, true, lines)?;
         return Ok(Sections::Doubted(doubted));

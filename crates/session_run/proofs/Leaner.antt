@@ -1,6 +1,6 @@
 -- Where a link fits after a graph and its earlier links, each taken as a trigger, it fits after the graph and the lines that these add, as a trigger and as a cancel.
-use Rattle.std.proofs.Common.{◌≡◌, ℕ, zero, suc, ◌+◌, ◌<◌, ◌≤◌, Bool, true, false, cond, not, ◌||◌, List, [], ◌∷◌, ◌++◌, length, map, filter, refl, sym, ◌∙◌, ap, append_assoc, length-append, arith}
-use Rattle.std.specs.Prelude.{Option, Some, None, position, unwrap_or, is_some, nat_lt, nat_le, codes, slice_get, bytes_eq}
+use Rattle.std.proofs.Common.{◌≡◌, ℕ, zero, suc, ◌+◌, ◌<◌, ◌≤◌, Bool, true, false, cond, not, ◌||◌, ◌&&◌, List, [], ◌∷◌, ◌++◌, length, map, filter, refl, sym, ◌∙◌, ap, append_assoc, length-append, arith}
+use Rattle.std.specs.Prelude.{Option, Some, None, filter_map, position, unwrap_or, is_some, nat_lt, nat_le, codes, slice_get, bytes_eq}
 use Rattle.std.specs.Option.{option_map_or}
 use Rattle.std.specs.List.{list_any, position_or_len, join_with_byte, AllByRecursion}
 use Rattle.std.proofs.lemmas.Bool.{true≢false, cond-true, cond-false, or_parts, or_from, le-ltb, lt-leb, ltb-true, ltb-false, lt-ltb}
@@ -12,10 +12,13 @@ use Rattle.graph_terms.specs.declared.verb.Verb.TheVariants.{Trigger, Cancel}
 use Rattle.graph_terms.specs.declared.format.Format.{Format}
 use Rattle.graph_terms.specs.declared.format.Format.TheVariants.{One, Two, Three}
 use Rattle.graph_terms.specs.declared.why.Why.TheVariants as why
-use Rattle.graph_terms.specs.Graph.{GraphValue, columns, locks, barriers, decl_name, line_passes, is_user, ends_user}
+use Rattle.graph_terms.specs.declared.limits.TheConstants.{MAX_TEXT, MAX_SPACES}
+use Rattle.graph_terms.specs.declared.limits.Limits.{Limits}
+use Rattle.graph_terms.specs.Limits.{limits}
+use Rattle.graph_terms.specs.Graph.{GraphValue, space_of, named_spaces, columns, locks, barriers, decl_name, line_passes, is_user, ends_user}
 use Rattle.graph_terms.specs.Edges.{edges, line_edges}
 use Rattle.graph_terms.specs.Spelling.{head, spelled, line_words, line_name}
-use Rattle.graph_terms.specs.Fits.{first_reason, is_used, with_line, line_fault, line_tests, cell_count, is_inst, is_beyond, on_unlike, names_many, format_lacks}
+use Rattle.graph_terms.specs.Fits.{first_reason, is_used, with_line, line_fault, line_tests, cell_count, is_inst, has_many_spaces, is_beyond, on_unlike, names_many, format_lacks}
 use Rattle.graph_terms.proofs.Public.{head_with_line, edges_push}
 use Rattle.graph_words.specs.Draft.{line_number}
 use Rattle.graph_reader.specs.FirstFault.{is_line_name}
@@ -197,29 +200,45 @@ edges_less g ts ks l u b r =
     let z = one_edge (g.lines ++ ks) l u b in
     omega (arith, x, y, z, r.edges)
 
--- three of eight tests are replaced
-three_of : (a b c d e f l m x y z : Bool) → (a || (b || (c || (d || (e || (f || (l || m))))))) ≡ false → (a ≡ false → x ≡ false) → (l ≡ false → y ≡ false) → (m ≡ false → z ≡ false) → (x || (b || (c || (d || (e || (f || (y || z))))))) ≡ false
-three_of a b c d e f l m x y z h p q r =
-    let h0 = or_parts a (b || (c || (d || (e || (f || (l || m)))))) h in
-    let h1 = or_parts b (c || (d || (e || (f || (l || m))))) h0.1 in
+-- more spaces than a long text may declare
+many_less : (g h : GraphValue) → h.decls ≡ g.decls → length (head h) ≤ length (head g) → has_many_spaces g ≡ false → has_many_spaces h ≡ false
+many_less g h same shorter passed = by_spaces (nat_lt MAX_SPACES (length (named_spaces g))) refl
+  where
+    spaces : nat_lt MAX_SPACES (length (named_spaces h)) ≡ nat_lt MAX_SPACES (length (named_spaces g))
+    spaces = ap (λ ds. nat_lt MAX_SPACES (length (filter_map space_of ds))) same
+
+    by_spaces : (b : Bool) → nat_lt MAX_SPACES (length (named_spaces g)) ≡ b → has_many_spaces h ≡ false
+    by_spaces true e = ap (λ b. b && nat_lt MAX_TEXT (length (head h))) (spaces ∙ e) ∙ less_is MAX_TEXT (length (head h)) (length (head g)) shorter (ap (λ b. b && nat_lt MAX_TEXT (length (head g))) (sym e) ∙ passed)
+    by_spaces false e = ap (λ b. b && nat_lt MAX_TEXT (length (head h))) (spaces ∙ e)
+
+-- four of nine tests are replaced
+four_of : (a s b c d e f l m x t y z : Bool) → (a || (s || (b || (c || (d || (e || (f || (l || m)))))))) ≡ false → (a ≡ false → x ≡ false) → (s ≡ false → t ≡ false) → (l ≡ false → y ≡ false) → (m ≡ false → z ≡ false)
+    → (x || (t || (b || (c || (d || (e || (f || (y || z)))))))) ≡ false
+four_of a s b c d e f l m x t y z h p n q r =
+    let h0 = or_parts a (s || (b || (c || (d || (e || (f || (l || m))))))) h in
+    let hs = or_parts s (b || (c || (d || (e || (f || (l || m)))))) h0.1 in
+    let h1 = or_parts b (c || (d || (e || (f || (l || m))))) hs.1 in
     let h2 = or_parts c (d || (e || (f || (l || m)))) h1.1 in
     let h3 = or_parts d (e || (f || (l || m))) h2.1 in
     let h4 = or_parts e (f || (l || m)) h3.1 in
     let h5 = or_parts f (l || m) h4.1 in
     let h6 = or_parts l m h5.1 in
-    or_from x (b || (c || (d || (e || (f || (y || z)))))) (p h0.0) (or_from b (c || (d || (e || (f || (y || z))))) h1.0 (or_from c (d || (e || (f || (y || z)))) h2.0 (or_from d (e || (f || (y || z))) h3.0 (or_from e (f || (y || z)) h4.0 (or_from f (y || z) h5.0 (or_from y z (q h6.0) (r h6.1)))))))
+    or_from x (t || (b || (c || (d || (e || (f || (y || z))))))) (p h0.0) (or_from t (b || (c || (d || (e || (f || (y || z)))))) (n hs.0) (or_from b (c || (d || (e || (f || (y || z))))) h1.0
+    (or_from c (d || (e || (f || (y || z)))) h2.0 (or_from d (e || (f || (y || z))) h3.0 (or_from e (f || (y || z)) h4.0 (or_from f (y || z) h5.0 (or_from y z (q h6.0) (r h6.1))))))))
 
 beyond_less : (g : GraphValue) (ts ks : List Line) (l : Link) (u : ℕ) (b : Bool) → IsLeaner g ts ks → u < length g.lines → is_beyond (with_line (longer g ts) (link_as l (Trigger u))) ≡ false → is_beyond (with_line (longer g ks) (link_as l (ender b u))) ≡ false
 beyond_less g ts ks l u b r h passed =
     let T : GraphValue = longer g (ts ++ link_as l (Trigger u) ∷ []) in
     let K : GraphValue = longer g (ks ++ link_as l (ender b u) ∷ []) in
+    let most : Limits = limits g.format in
     let all : is_beyond T ≡ false = ap is_beyond (sym (pushed g ts (link_as l (Trigger u)))) ∙ passed in
+    let text : length (head K) ≤ length (head T) = text_less g ts ks l u b r h in
     let lines : length (g.lines ++ (ks ++ link_as l (ender b u) ∷ [])) ≤ length (g.lines ++ (ts ++ link_as l (Trigger u) ∷ [])) =
     omega (arith, length-append g.lines (ks ++ link_as l (ender b u) ∷ []), length-append g.lines (ts ++ link_as l (Trigger u) ∷ []), count_less g ts ks (link_as l (ender b u)) (link_as l (Trigger u)) r.count) in
     ap is_beyond (pushed g ks (link_as l (ender b u)))
-    ∙ three_of (nat_lt 1048576 (length (head T))) (nat_lt 64 (length (filter is_inst g.decls))) (nat_lt 256 (length (columns T))) (nat_lt 4194304 (cell_count T)) (nat_lt 64 (length (locks T))) (nat_lt 64 (length (barriers T))) (nat_lt 8192 (length T.lines)) (nat_lt 65536 (length (edges T)))
-    (nat_lt 1048576 (length (head K))) (nat_lt 8192 (length K.lines)) (nat_lt 65536 (length (edges K))) all
-    (less_is 1048576 (length (head K)) (length (head T)) (text_less g ts ks l u b r h)) (less_is 8192 (length K.lines) (length T.lines) lines) (less_is 65536 (length (edges K)) (length (edges T)) (edges_less g ts ks l u b r))
+    ∙ four_of (nat_lt most.text (length (head T))) (has_many_spaces T) (nat_lt most.insts (length (filter is_inst g.decls))) (nat_lt most.columns (length (columns T))) (nat_lt most.cells (cell_count T)) (nat_lt most.locks (length (locks T))) (nat_lt most.barriers (length (barriers T))) (nat_lt most.lines (length T.lines)) (nat_lt most.edges (length (edges T)))
+    (nat_lt most.text (length (head K))) (has_many_spaces K) (nat_lt most.lines (length K.lines)) (nat_lt most.edges (length (edges K))) all
+    (less_is most.text (length (head K)) (length (head T)) text) (many_less T K refl text) (less_is most.lines (length K.lines) (length T.lines) lines) (less_is most.edges (length (edges K)) (length (edges T)) (edges_less g ts ks l u b r))
 
 flip : (b : Bool) → not b ≡ false → b ≡ true
 flip true x = refl

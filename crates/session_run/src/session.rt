@@ -1,8 +1,10 @@
 //! Running the graphs of a session in order.
 
 ghost use Rattle.std.specs.Prelude.{◌≡◌, ℕ, ◌+◌, ◌<◌, ◌≤◌, ◌++◌, ◌∷◌, [], List, length, map, IfOk, IfErr};
+ghost use Rattle.std.specs.Borrow.{Bor};
 ghost use Rattle.std.specs.Fn.{FnReturnsAt};
 ghost use Rattle.event_table.specs.declared.limits.TheConstants.{MAX_SLOTS};
+ghost use Rattle.checked_graph.specs.Checked.{CheckedValue};
 ghost use Rattle.graph_meaning.specs.Rules.{Accepted};
 ghost use Rattle.race_check.specs.Refusal.{IsRefusal, NamesLines};
 ghost use Rattle.session_text.specs.declared.limits.TheConstants.{MAX_GRAPHS, MAX_SESSION_LINES};
@@ -60,7 +62,7 @@ fn unfit_fault(name: Name, unfit: Unfit) -> RunFault
 }
 
 /// Runs the graphs of a session in order, each with its links as lines and by a call of `run`, and records
-/// each before the next is checked. The first that is refused ends it.
+/// each before the next is checked. The first that is refused ends it. No graph has more lines than a session.
 pub fn run_session<F: Fn(&Checked) -> Result<Outcome, NoMemory>>(
     alloc: Global,
     run: &F,
@@ -69,7 +71,7 @@ pub fn run_session<F: Fn(&Checked) -> Result<Outcome, NoMemory>>(
 ) -> Result<Ended, RunFault>
     requires slots { (0 < slots) × (slots ≤ MAX_SLOTS) }
     requires entries { AreEntries entries.items }
-    requires callable { F.IsAlwaysCallable run.now }
+    requires callable { (p : Bor CheckedValue) → length p.now.graph.lines ≤ MAX_SESSION_LINES → F.pre run.now p }
     requires outcomes { GivesOutcomes (FnReturnsAt F.Fn run.now) }
     ensures ended { IfOk result (λ e. IsEnded e) }
     ensures linked { IfOk result (λ e. map linked_of e.graphs.items ≡ linked entries.items) }
@@ -99,7 +101,7 @@ fn run_next<F: Fn(&Checked) -> Result<Outcome, NoMemory>>(
 ) -> Result<Running, RunFault>
     requires running { IsRunning running }
     requires next { CanRunNext (ran_by running) entry }
-    requires callable { F.IsAlwaysCallable run.now }
+    requires callable { (p : Bor CheckedValue) → length p.now.graph.lines ≤ MAX_SESSION_LINES → F.pre run.now p }
     requires outcomes { GivesOutcomes (FnReturnsAt F.Fn run.now) }
     ensures running { IfOk result (λ r. IsRunning r) }
     ensures slots { IfOk result (λ r. slots_of r ≡ slots_of running) }
@@ -130,7 +132,7 @@ fn run_checked<F: Fn(&Checked) -> Result<Outcome, NoMemory>>(
     requires running { IsRunning running }
     requires graphs { length (ran_by running) < MAX_GRAPHS }
     requires few { line_total (ran_by running) + length checked.graph.lines ≤ MAX_SESSION_LINES }
-    requires callable { F.IsAlwaysCallable run.now }
+    requires callable { (p : Bor CheckedValue) → length p.now.graph.lines ≤ MAX_SESSION_LINES → F.pre run.now p }
     requires outcomes { GivesOutcomes (FnReturnsAt F.Fn run.now) }
     ensures running { IfOk result (λ r. IsRunning r) }
     ensures slots { IfOk result (λ r. slots_of r ≡ slots_of running) }

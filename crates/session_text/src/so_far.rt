@@ -6,7 +6,8 @@ ghost use Rattle.std.specs.List.{list_any};
 ghost use Rattle.std.specs.Option.{option_map_or};
 ghost use Rattle.std.specs.Str.{bytes_eq};
 ghost use Rattle.graph_terms.specs.Fits.{cell_count};
-ghost use Rattle.graph_terms.specs.declared.limits.TheConstants.{MAX_TEXT, MAX_CELLS};
+ghost use Rattle.index_spaces.specs.declared.limits.TheConstants.{MAX_POINTS_OF_THREE};
+ghost use Rattle.graph_terms.specs.declared.limits.TheConstants.{MAX_TEXT, MAX_CELLS, MAX_COLUMNS_OF_THREE};
 ghost use Rattle.graph_terms.specs.Name.{is_name_in};
 ghost use Rattle.graph_words.specs.Text.{GraphText};
 ghost use Rattle.graph_reader.specs.FirstFault.{is_empty};
@@ -472,11 +473,11 @@ fn read_behind(alloc: Global, bytes: &[u8], line: u32) -> Result<Graph, ReadRefu
 /// The cells of all columns of a graph.
 fn cell_count(graph: &Graph) -> u64
     ensures cells { result ≡ cell_count graph.now }
-    ensures few { result ≤ 268435456 }
+    ensures few { result ≤ MAX_COLUMNS_OF_THREE * MAX_POINTS_OF_THREE }
 {
     let mut cells = 0;
     for c in 0..graph.columns() {
-        cells += u64::from(graph.column_space(c).size());
+        cells += graph.column_space(c).size();
     }
     cells
 }

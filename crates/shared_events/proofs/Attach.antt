@@ -104,7 +104,7 @@ pub record Back (k : ℕ) (h : Handle) (again : ℕ) (v n q : Sat) : Type 0 wher
   pub ended : 2 * h.gen_ + 2 ≤ turns_of again → Contains n.0.past h
   pub pending : turns_of again < 2 * h.gen_ + 2 → turns_of again ≡ 2 * h.gen_ + 1
 
-pub comes_back : (k d : ℕ) (h : Handle) (again : ℕ) (v m n n' q : Sat) (x : Shape) → Ready k d v m → Contains v.0.seen h → v.0.keys ≡ x ∷ [] → k < x.waiters → x.waiters ≤ 8192 → looked h.slot m again n → n' ≡ (dealer n.0, n.1) → q ≡ (dealt n.0, [])
+pub comes_back : (k d : ℕ) (h : Handle) (again : ℕ) (v m n n' q : Sat) (x : Shape) → Ready k d v m → Contains v.0.seen h → v.0.keys ≡ x ∷ [] → k < x.waiters → x.waiters ≤ 65536 → looked h.slot m again n → n' ≡ (dealer n.0, n.1) → q ≡ (dealt n.0, [])
     → Back k h again v n' q
 comes_back k d h again v m n n' q x r seen keys few small t left right =
     let seen' = r.kept.seen h seen in
@@ -126,7 +126,7 @@ comes_back k d h again v m n n' q x r seen keys few small t left right =
     subst (λ (y : Sat). Back k h again v y q) (sym (left ∙ ap (λ (y : Sat). (dealer y.0, y.1)) t.0)) (subst (λ (y : Sat). Back k h again v (dealer w.0, w.1) y) (sym (right ∙ ap (λ (y : Sat). (dealt y.0, [])) t.0)) base)
 
 -- the same from the call's beginning
-pub came_back : (k d : ℕ) (h : Handle) (again : ℕ) (v u m l n n' q : Sat) (x : Shape) → IsPlain v → IsWaiter u k → v.0.keys ≡ x ∷ [] → u.0.keys ≡ x ∷ [] → x.waiters ≤ 8192 → m ≡ (joined v.0 u.0, v.1) → relinked d m l → Contains v.0.seen h
+pub came_back : (k d : ℕ) (h : Handle) (again : ℕ) (v u m l n n' q : Sat) (x : Shape) → IsPlain v → IsWaiter u k → v.0.keys ≡ x ∷ [] → u.0.keys ≡ x ∷ [] → x.waiters ≤ 65536 → m ≡ (joined v.0 u.0, v.1) → relinked d m l → Contains v.0.seen h
     → looked h.slot l again n → n' ≡ (dealer n.0, n.1) → q ≡ (dealt n.0, []) → Back k h again v n' q
 came_back k d h again v u m l n n' q x plain waiter keys keys' small join link seen t left right =
     let all : waiters_of u.0.keys ≡ x.waiters = ap waiters_of keys' in

@@ -53,7 +53,7 @@ pub record Ended (h : Handle) (f : Fate) (m : Sat) (r : ℕ) (n : Sat) : Type 0 
   pub chased : HasPlaced m.0 h n.0.caught
   pub once : IsOnce m.0 n.0.caught
 
-pub has_ended : (m₀ m n : Sat) (h : Handle) (f : Fate) (r : ℕ) (x : Shape) → Armed h f m₀ m → m.0.keys ≡ x ∷ [] → x.waiters ≤ 8192 → ended m r n → Ended h f m r n
+pub has_ended : (m₀ m n : Sat) (h : Handle) (f : Fate) (r : ℕ) (x : Shape) → Armed h f m₀ m → m.0.keys ≡ x ∷ [] → x.waiters ≤ 65536 → ended m r n → Ended h f m r n
 has_ended m₀ m n h f r x armed keys small t =
     let h' : Handle = t.0 in
     let rest : List Handle = t.1 in
@@ -79,16 +79,16 @@ pub receipt_of : (n q : Sat) (h : Handle) (f : Fate) (known : List (Handle × Fa
 receipt_of n q h f known e is = let l : last_of n.0.known ≡ (h, f) ∷ [] = ap last_of e ∙ last_pushed known (h, f) in
     subst (λ (x : Sat). IsReceipt x h f) (sym is) ((refl, refl, refl, refl, refl, refl), refl, ap (map (λ (p : Handle × Fate). p.0)) l, l, refl, (refl, refl, refl, refl))
 
-pub chain_of : (n q : Sat) (h : Handle) (next : ℕ) (x : Shape) → Rights n 0 [] [] (h ∷ []) → code n.0.caught ≡ next → next ≤ x.waiters → x.waiters ≤ 8192 → n.0.keys ≡ x ∷ [] → q ≡ (chaser n.0, []) → IsCaught q h next
+pub chain_of : (n q : Sat) (h : Handle) (next : ℕ) (x : Shape) → Rights n 0 [] [] (h ∷ []) → code n.0.caught ≡ next → next ≤ x.waiters → x.waiters ≤ 65536 → n.0.keys ≡ x ∷ [] → q ≡ (chaser n.0, []) → IsCaught q h next
 chain_of n q h next x rights code-is low small keys is = let w : waiters_of n.0.keys ≡ x.waiters = ap waiters_of keys in
     subst (λ (y : Sat). IsCaught y h next) (sym is) ((refl, refl, refl, refl, rights.4, refl), code-is, omega arith, omega arith)
 
-pub all_ends : (v u m m' n : Sat) (h : Handle) (f : Fate) (r : ℕ) (x : Shape) → IsPlain v → IsPending u h → v.0.keys ≡ x ∷ [] → x.waiters ≤ 8192 → m ≡ (joined v.0 u.0, v.1) → m' ≡ (marking f m.0, m.1) → ended m' r n → Ended h f m' r n × (n.0.keys ≡ x ∷ []) × (m'.0.keys ≡ x ∷ [])
+pub all_ends : (v u m m' n : Sat) (h : Handle) (f : Fate) (r : ℕ) (x : Shape) → IsPlain v → IsPending u h → v.0.keys ≡ x ∷ [] → x.waiters ≤ 65536 → m ≡ (joined v.0 u.0, v.1) → m' ≡ (marking f m.0, m.1) → ended m' r n → Ended h f m' r n × (n.0.keys ≡ x ∷ []) × (m'.0.keys ≡ x ∷ [])
 all_ends v u m m' n h f r x plain pending keys small join-is mark-is t =
     let a = took v u m h plain pending join-is in
     let armed = arms m m' h f a.0 a.1 mark-is in
     let k : m'.0.keys ≡ x ∷ [] = armed.keys ∙ (ap (λ (y : Sat). y.0.keys) join-is ∙ keys) in
     let e = has_ended m m' n h f r x armed k small t in (e, e.keys ∙ k, k)
 
-pub catches : (m n n' q : Sat) (h : Handle) (f : Fate) (r : ℕ) (x : Shape) → Ended h f m r n → n.0.keys ≡ x ∷ [] → m.0.keys ≡ x ∷ [] → x.waiters ≤ 8192 → n' ≡ (n.0, n.1) → q ≡ (chaser n'.0, []) → IsCaught q h (r % 4294967296 - 1)
+pub catches : (m n n' q : Sat) (h : Handle) (f : Fate) (r : ℕ) (x : Shape) → Ended h f m r n → n.0.keys ≡ x ∷ [] → m.0.keys ≡ x ∷ [] → x.waiters ≤ 65536 → n' ≡ (n.0, n.1) → q ≡ (chaser n'.0, []) → IsCaught q h (r % 4294967296 - 1)
 catches m n n' q h f r x e keys keys' small same is = chain_of n q h (r % 4294967296 - 1) x e.rights e.caught (e.head x keys') small keys (is ∙ ap (λ (y : Sat). (chaser y.0, [])) same)

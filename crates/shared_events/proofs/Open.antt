@@ -40,7 +40,7 @@ all_new : (k m : ℕ) (p : ℕ × ℕ) → Contains (undealt k m) p → (p.0 < k
 all_new k zero p c = absurd (contains_none p c)
 all_new k (suc m) p c = ⊎_elim (λ (e : (k, 0) ≡ p). subst (λ (q : ℕ × ℕ). (q.0 < k + suc m) × (q.1 ≡ 0)) e (omega arith, refl)) (λ d. let t = all_new (k + 1) m p d in let a = t.0 in (omega arith, t.1)) (contains_cases (k, 0) (undealt (k + 1) m) p c)
 
-pub opens : (key : Shape) (ws : List ℕ) → ws ≡ replicate (key.slots + key.waiters + mark_words key) 0 → key.waiters ≤ 8192 → Orderly key (opening {S = Unit {0}} ws [] (opener key))
+pub opens : (key : Shape) (ws : List ℕ) → ws ≡ replicate (key.slots + key.waiters + mark_words key) 0 → key.waiters ≤ 65536 → Orderly key (opening {S = Unit {0}} ws [] (opener key))
 opens key ws is small =
     let v : View = opener key in
     let n : ℕ = key.slots in

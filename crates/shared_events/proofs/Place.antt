@@ -26,7 +26,7 @@ use Rattle.shared_events.proofs.Steps.{board, each_after, one_right_after, no_ri
 use Rattle.shared_events.proofs.Slot.{word_here, word_there, link_there, chain_here, chain_there, chain_at, chain_was}
 
 -- a word that shows a chain which begins with c, or none at 0
-pub decode : (last t c g : ℕ) (ch : List ℕ) (w : ℕ) → Shows last t ch w → w ≡ g * 4294967296 + 1 + c → c + 1 < 4294967295 → code ch ≤ 8192 → (t ≡ 2 * g + 1) × (code ch ≡ c)
+pub decode : (last t c g : ℕ) (ch : List ℕ) (w : ℕ) → Shows last t ch w → w ≡ g * 4294967296 + 1 + c → c + 1 < 4294967295 → code ch ≤ 65536 → (t ≡ 2 * g + 1) × (code ch ≡ c)
 decode last t c g ch w s e small few = let f = s.few in dite (ℕ_discrete (t % 2) 1)
     (λ odd. let p = s.pending odd in let half : t / 2 ≡ g = omega arith in (omega arith, omega arith))
     (λ even. let ev : t % 2 ≡ 0 = omega arith in dite (ℕ_discrete t (2 * last + 2)) (λ z. let r = s.retired z in absurd (omega arith)) (λ z. let r = s.free ev (omega arith) in absurd (omega arith)))

@@ -23,11 +23,11 @@ use Rattle.shared_events.proofs.Parts.{whole, facts_fit, placings_fit, rights_fi
 use Rattle.shared_events.proofs.Steps.{shown, found_fits, own, kept_word}
 
 -- a free word is at an even turn
-even_at : (last t : ℕ) (c : List ℕ) (w : ℕ) → Shows last t c w → code c ≤ 8192 → w % 4294967296 ≡ 0 → t % 2 ≡ 0
+even_at : (last t : ℕ) (c : List ℕ) (w : ℕ) → Shows last t c w → code c ≤ 65536 → w % 4294967296 ≡ 0 → t % 2 ≡ 0
 even_at last t c w s low zero-low = dite (ℕ_discrete (t % 2) 1) (λ odd. let p = s.pending odd in absurd (omega arith)) (λ ne. omega arith)
 
 -- the low half tells which of the three it is
-parts : (last t : ℕ) (c : List ℕ) (w : ℕ) → Shows last t c w → code c ≤ 8192 → (w % 4294967296 ≡ 4294967295 → t ≡ 2 * last + 2) × (w % 4294967296 ≢ 0 → w % 4294967296 ≢ 4294967295 → t ≡ 2 * (w / 4294967296) + 1)
+parts : (last t : ℕ) (c : List ℕ) (w : ℕ) → Shows last t c w → code c ≤ 65536 → (w % 4294967296 ≡ 4294967295 → t ≡ 2 * last + 2) × (w % 4294967296 ≢ 0 → w % 4294967296 ≢ 4294967295 → t ≡ 2 * (w / 4294967296) + 1)
 parts last t c w s low = let few = s.few in dite (ℕ_discrete (t % 2) 1) (λ odd. let p = s.pending odd in ((λ z. absurd (omega arith)), λ z₁ z₂. omega arith))
     (λ ne. let ev : t % 2 ≡ 0 = omega arith in dite (ℕ_discrete t (2 * last + 2)) (λ e. let q = s.retired e in ((λ _. e), λ z₁ z₂. absurd (z₂ (omega arith))))
     (λ n. let q = s.free ev (omega arith) in ((λ z. absurd (omega arith)), λ z₁ z₂. absurd (z₁ (omega arith)))))
@@ -40,7 +40,7 @@ scouts key n id i m near s o wide me _ =
     let e = shown key s o i near in
     let fits = o.each_view id v me in
     let slot = o.each_slot i near in
-    let low : code (get_or o.chains i []) ≤ 8192 = let a = code_le key s.words (get_or o.chains i []) slot.1 in let b = o.small in omega arith in
+    let low : code (get_or o.chains i []) ≤ 65536 = let a = code_le key s.words (get_or o.chains i []) slot.1 in let b = o.small in omega arith in
     let f = found_fits key s.words o.turns o.log v i r e fits in
     let Q : ℕ × ℕ → Type 0 = λ p. (p.0 < key.slots) × (get_or s.words p.0 0 ≡ p.1) × (get_or o.turns p.0 0 % 2 ≡ 0) in
     let spare' : (p : ℕ × ℕ) → Contains w.spare p → Q p = λ p c. by_test (eqb (r % 4294967296) 0)

@@ -8,9 +8,10 @@ use Rattle.std.proofs.lemmas.Option.{get_or_from_slice_get}
 use Rattle.std.proofs.lemmas.Slice.Eq.{bytes_eq-Decides}
 use Rattle.std.proofs.lemmas.List.Elements.{Contains-append_cases}
 use Rattle.task_flow.proofs.Names.{new_differ}
-use Rattle.graph_terms.specs.declared.limits.TheConstants.{MAX_LINES}
+use Rattle.graph_terms.specs.Limits.{limits}
 use Rattle.graph_terms.specs.declared.decl.Decl.{Decl}
 use Rattle.graph_terms.specs.declared.decl.Decl.TheVariants.{Lock}
+use Rattle.graph_terms.specs.declared.format.Format.{Format}
 use Rattle.graph_terms.specs.declared.verb.Line.{Line}
 use Rattle.graph_terms.specs.Graph.{GraphValue, decl_name, lock_of, locks}
 use Rattle.graph_terms.specs.Fits.{is_beyond, is_used}
@@ -25,7 +26,8 @@ use Rattle.task_flow.proofs.NameScan.{is_free}
 use Rattle.basics.proofs.Choices.{both_not}
 use Rattle.task_flow.proofs.MadeLines.{made_stands, wait_grows}
 use Rattle.basics.proofs.ListFacts.{contains_none}
-use Rattle.task_flow.proofs.Growth.{by_longer}
+use Rattle.task_flow.proofs.Bounds.{lines_most, locks_most}
+use Rattle.task_flow.proofs.Growth.{by_longer, by_format, wait_format}
 use Rattle.task_flow.proofs.Reservations.{reservations_are, reservations_some, reservations_none, lock_named, lock_before, locks_more, few_before, lock_below}
 use Rattle.task_flow.proofs.Fitting.{used_decl, unused_where, beyond_more, fit_from, past_beyond, fresh_from, number_small}
 
@@ -56,24 +58,33 @@ no_items : {X : Type 0} (xs : List X) → length xs ≡ 0 → xs ≡ []
 no_items [] h = refl
 no_items (x ∷ xs) h = absurd (let e : suc (length xs) ≡ 0 = h in omega arith)
 
+-- what is made has the format of the flow
+made_format : (f : GraphValue) (commute : Bool) (first n : ℕ) → (made_after f commute first n).format ≡ f.format
+made_format f commute first zero = refl
+made_format f commute first (suc n) =
+    let r = wait_for (parts_of f commute (sources_after f commute n) n) (made_after f commute first n) in
+    by_format (lock_wanted f commute n) (line_in f n) r ∙ (wait_format (parts_of f commute (sources_after f commute n) n) (made_after f commute first n) ∙ made_format f commute first n)
+
 -- the reservations have the numbers behind those of lines, and there are few
-reserved_at : (f : GraphValue) (commute : Bool) → wants_many f commute (length f.lines) ≡ false → (first : ℕ) → first ≡ number_from f → (b : Bool) → is_some (first_number f) ≡ b → (b ≡ true → (k : ℕ) → k < 65536 → is_used f (new_name (first + k)) ≡ false) →
-    (d : Decl) → Contains (reservations f commute) d → (k : ℕ) × (k < 64) × (d ≡ Lock (new_name (first + (8192 + k)))) × (is_used f (new_name (first + (8192 + k))) ≡ false)
+reserved_at : (f : GraphValue) (commute : Bool) → wants_many f commute (length f.lines) ≡ false → (first : ℕ) → first ≡ number_from f → (b : Bool) → is_some (first_number f) ≡ b → (b ≡ true → (k : ℕ) → k < 131072 → is_used f (new_name (first + k)) ≡ false) →
+    (d : Decl) → Contains (reservations f commute) d → (k : ℕ) × (k < 1024) × (d ≡ Lock (new_name (first + ((limits f.format).lines + k)))) × (is_used f (new_name (first + ((limits f.format).lines + k))) ≡ false)
 reserved_at f commute few first is false none free d c = absurd (contains_none d (subst (λ xs. Contains xs d) (reservations_none f commute (no_number f none)) c))
 reserved_at f commute few first is true some free d c =
-    let r = lock_named (number_from f + 8192) (needed f commute (length f.lines)) d (subst (λ xs. Contains xs d) (reservations_some f commute (number_from f) (some_number f some)) c) in
-    let count : length (locks f) + length (needed f commute (length f.lines)) ≤ 64 = ltb-false 64 (length (locks f) + length (needed f commute (length f.lines))) few in
+    let r = lock_named (number_from f + (limits f.format).lines) (needed f commute (length f.lines)) d (subst (λ xs. Contains xs d) (reservations_some f commute (number_from f) (some_number f some)) c) in
+    let lines : (limits f.format).lines ≤ 65536 = lines_most f.format in
+    let most : (limits f.format).locks ≤ 1024 = locks_most f.format in
+    let count : length (locks f) + length (needed f commute (length f.lines)) ≤ (limits f.format).locks = ltb-false (limits f.format).locks (length (locks f) + length (needed f commute (length f.lines))) few in
     let below : r.0 < length (needed f commute (length f.lines)) = r.1 in
-    let small : r.0 < 64 = omega arith in
-    let same : (number_from f + 8192) + r.0 ≡ first + (8192 + r.0) = omega arith in
-    (r.0, small, r.2 ∙ ap (λ z. Lock (new_name z)) same, free refl (8192 + r.0) (omega arith))
+    let small : r.0 < 1024 = omega arith in
+    let same : (number_from f + (limits f.format).lines) + r.0 ≡ first + ((limits f.format).lines + r.0) = omega arith in
+    (r.0, small, r.2 ∙ ap (λ z. Lock (new_name z)) same, free refl ((limits f.format).lines + r.0) (omega arith))
 
 room_at : (f : GraphValue) (commute : Bool) (b : Bool) → is_some (first_number f) ≡ b → (b ≡ false → ⊥) → (i : ℕ) → i < length f.lines → is_contended f commute i ≡ true → lock_for f commute i < length (filter_map lock_of (f.decls ++ reservations f commute))
 room_at f commute false none never i h contended = absurd (never refl)
 room_at f commute true some never i h contended =
     let below : lock_for f commute i < length (locks f) + length (needed f commute (length f.lines)) = lock_below f commute i h contended in
-    let count : length (filter_map lock_of (f.decls ++ locks_from (number_from f + MAX_LINES) (needed f commute (length f.lines)))) ≡ length (locks f) + length (needed f commute (length f.lines)) = locks_more f.decls (number_from f + MAX_LINES) (needed f commute (length f.lines)) in
-    let same : length (filter_map lock_of (f.decls ++ reservations f commute)) ≡ length (filter_map lock_of (f.decls ++ locks_from (number_from f + MAX_LINES) (needed f commute (length f.lines)))) = ap (λ xs. length (filter_map lock_of (f.decls ++ xs))) (reservations_some f commute (number_from f) (some_number f some)) in
+    let count : length (filter_map lock_of (f.decls ++ locks_from (number_from f + (limits f.format).lines) (needed f commute (length f.lines)))) ≡ length (locks f) + length (needed f commute (length f.lines)) = locks_more f.decls (number_from f + (limits f.format).lines) (needed f commute (length f.lines)) in
+    let same : length (filter_map lock_of (f.decls ++ reservations f commute)) ≡ length (filter_map lock_of (f.decls ++ locks_from (number_from f + (limits f.format).lines) (needed f commute (length f.lines)))) = ap (λ xs. length (filter_map lock_of (f.decls ++ xs))) (reservations_some f commute (number_from f) (some_number f some)) in
     omega arith
 
 module _ (f : GraphValue) (commute : Bool) (flow : IsFlow f) (few : wants_many f commute (length f.lines) ≡ false) (n : ℕ) (next : n < length f.lines) (old : Making) (mk : IsMaking f commute n old) (l : Line) (at : slice_get f.lines n ≡ Some l) (p : Parts) (parts : p ≡ parts_of f commute (sources_after f commute n) n) (o : Option ℕ) (lock : o ≡ lock_wanted f commute n) where
@@ -96,7 +107,7 @@ module _ (f : GraphValue) (commute : Bool) (flow : IsFlow f) (few : wants_many f
       ∙ ap (λ b. not b && (is_beyond (graph_of f commute target) || (is_none (first_number f) && nat_lt (suc n) (length target.lines)))) few
 
   pub past_over : IsPast (with_line_by o l (wait_for p (made_of old))) → is_over f commute n ≡ true
-  past_over h = over_is ∙ or_left (is_beyond (graph_of f commute target)) _ (past_beyond f commute target (subst IsPast next_is h))
+  past_over h = over_is ∙ or_left (is_beyond (graph_of f commute target)) _ (past_beyond f commute target (made_format f commute (number_from f) (suc n)) (subst IsPast next_is h))
 
   -- what is made, before it is put into the graph
   module _ (m : Making) (made : made_of m ≡ with_line_by o l (wait_for p (made_of old))) (graph : m.graph ≡ old.graph) (named : m.named ≡ old.named) where
@@ -171,14 +182,15 @@ module _ (f : GraphValue) (commute : Bool) (flow : IsFlow f) (few : wants_many f
           omega arith
 
       -- the lines that are made fit, by whether there are names
-      to_fit_by : length (made_of m).lines ≤ MAX_LINES → (b : Bool) → m.named ≡ b → AreToFit f.format (f.decls ++ reservations f commute) m.graph.lines m.row.items
+      to_fit_by : length (made_of m).lines ≤ (limits m.graph.format).lines → (b : Bool) → m.named ≡ b → AreToFit f.format (f.decls ++ reservations f commute) m.graph.lines m.row.items
       unfolding number_from first_number
       to_fit_by few_made b e =
           let st = made_stands f commute flow (number_from f) (suc n) (omega arith) in
-          let few_lines : length target.lines ≤ 8192 = subst (λ (x : Made). length x.lines ≤ 8192) all few_made in
+          let few_lines : length target.lines ≤ (limits f.format).lines = subst (λ (x : Made). length x.lines ≤ (limits f.format).lines) all (subst (λ fm. length (made_of m).lines ≤ (limits fm).lines) format_is few_made) in
+          let most_lines : (limits f.format).lines ≤ 65536 = lines_most f.format in
           let small : number_from f ≤ 100000000000000000 = number_small f (find (is_free f) (range_with_len 6 13)) refl in
           let first : target.first ≡ number_from f = st.2 in
-          let free : (m.named ≡ true) → (k : ℕ) → k < 65536 → is_used f (new_name (target.first + k)) ≡ false = λ some k h. ap (λ z. is_used f (new_name (z + k))) first ∙ fresh_from f k h (find (is_free f) (range_with_len 6 13)) refl (sym named_is ∙ some) in
+          let free : (m.named ≡ true) → (k : ℕ) → k < 131072 → is_used f (new_name (target.first + k)) ≡ false = λ some k h. ap (λ z. is_used f (new_name (z + k))) first ∙ fresh_from f k h (find (is_free f) (range_with_len 6 13)) refl (sym named_is ∙ some) in
           fit_from f commute flow (suc n) (omega arith) target st.0 st.1 few_lines (omega arith) (reservations f commute) (reservations_are f commute)
           (λ d c. reserved_at f commute few target.first first b (sym named_is ∙ e) (λ some k h. free (e ∙ some) k h) d c)
           (λ some i h contended. room_at f commute b (sym named_is ∙ e) (λ none. (
@@ -193,7 +205,7 @@ module _ (f : GraphValue) (commute : Bool) (flow : IsFlow f) (few : wants_many f
                 inr (no_items target.merges (omega arith), (let z : st.1.guards ≡ 0 = omega arith in z)))
           ]) m.graph.lines m.row.items (sym lines_are)
 
-      pub to_fit : length (made_of m).lines ≤ MAX_LINES → AreToFit m.graph.format m.graph.decls m.graph.lines m.row.items
+      pub to_fit : length (made_of m).lines ≤ (limits m.graph.format).lines → AreToFit m.graph.format m.graph.decls m.graph.lines m.row.items
       to_fit few_made = subst (λ x. AreToFit x m.graph.decls m.graph.lines m.row.items) (sym format_is) (subst (λ x. AreToFit f.format x m.graph.lines m.row.items) (sym decls_is) (to_fit_by few_made m.named refl))
 
       -- a line is made at least
@@ -240,8 +252,8 @@ pub first_is : (f : GraphValue) (o : Option ℕ) → o ≡ first_number f → un
 unfolding number_from
 first_is f o e = ap (λ x. unwrap_or x 0) e ∙ unwrapped (first_number f)
 
-abbrev made_with : List Line → List ℕ → List (List ℕ × ℕ) → ℕ → Made
-made_with lines places merges first = record { lines = lines; places = places; merges = merges; first = first }
+abbrev made_with : Format → List Line → List ℕ → List (List ℕ × ℕ) → ℕ → Made
+made_with fm lines places merges first = record { format = fm; lines = lines; places = places; merges = merges; first = first }
 
 pub making_first : (f : GraphValue) (commute : Bool) (m : Making) → m.graph ≡ lined f.format (f.decls ++ reservations f commute) [] → m.row.items ≡ [] → m.places.items ≡ [] → m.merges ≡ [] → m.first ≡ number_from f → m.named ≡ is_some (first_number f) → IsMaking f commute 0 m
 making_first f commute m graph row places merges first named =
@@ -250,7 +262,8 @@ making_first f commute m graph row places merges first named =
       format = ap (λ (g : GraphValue). g.format) graph;
       decls = ap (λ (g : GraphValue). g.decls) graph;
       row = row;
-      made = ap (λ x. made_with x m.places.items m.merges m.first) lines ∙ (ap (λ x. made_with [] x m.merges m.first) places ∙ (ap (λ x. made_with [] [] x m.first) merges ∙ ap (λ x. made_with [] [] [] x) first));
+      made = ap (λ x. made_with x (m.graph.lines ++ m.row.items) m.places.items m.merges m.first) (ap (λ (g : GraphValue). g.format) graph)
+          ∙ (ap (λ x. made_with f.format x m.places.items m.merges m.first) lines ∙ (ap (λ x. made_with f.format [] x m.merges m.first) places ∙ (ap (λ x. made_with f.format [] [] x m.first) merges ∙ ap (λ x. made_with f.format [] [] [] x) first)));
       named = named;
       alone = λ h. ap (λ (g : GraphValue). length g.lines) graph;
     }
@@ -262,7 +275,7 @@ making_done f commute n m k all =
     let lines : m.graph.lines ≡ (made_after f commute (number_from f) (length f.lines)).lines = sym (append-nil m.graph.lines) ∙ (ap (λ xs. m.graph.lines ++ xs) (sym k.row) ∙ (ap (λ (x : Made). x.lines) k.made ∙ ap (λ z. (made_after f commute (number_from f) z).lines) all)) in
     ap (λ x. lined x m.graph.decls m.graph.lines) k.format ∙ (ap (λ x. lined f.format x m.graph.lines) k.decls ∙ ap (λ x. lined f.format (f.decls ++ reservations f commute) x) lines)
 
-pub number_free : (f : GraphValue) → is_some (first_number f) ≡ true → (i : ℕ) → i < 65536 → is_used f (new_name (number_from f + i)) ≡ false
+pub number_free : (f : GraphValue) → is_some (first_number f) ≡ true → (i : ℕ) → i < 131072 → is_used f (new_name (number_from f + i)) ≡ false
 unfolding number_from first_number
 number_free f some i h = fresh_from f i h (find (is_free f) (range_with_len 6 13)) refl some
 
@@ -277,30 +290,32 @@ number_is : (f : GraphValue) (first : ℕ) → Some first ≡ first_number f →
 number_is f first is = first_is f (Some first) is
 
 module _ (f : GraphValue) (s : Sections) (a : AreSections f s) (g : GraphValue) (is : g ≡ lined f.format f.decls []) (first : ℕ) (numbers : Some first ≡ first_number f) where
-  pub locks_declared : lined g.format (g.decls ++ locks_from (first + MAX_LINES) s.columns) [] ≡ lined f.format (f.decls ++ reservations f s.commute) []
+  pub locks_declared : lined g.format (g.decls ++ locks_from (first + (limits g.format).lines) s.columns) [] ≡ lined f.format (f.decls ++ reservations f s.commute) []
   locks_declared =
-      ap (λ (z : GraphValue). lined z.format (z.decls ++ locks_from (first + MAX_LINES) s.columns) []) is
-      ∙ (ap (λ xs. lined f.format (f.decls ++ locks_from (first + MAX_LINES) xs) []) a.columns ∙ ap (λ xs. lined f.format (f.decls ++ xs) []) (sym (reservations_some f s.commute first numbers)))
+      ap (λ (z : GraphValue). lined z.format (z.decls ++ locks_from (first + (limits z.format).lines) s.columns) []) is
+      ∙ (ap (λ xs. lined f.format (f.decls ++ locks_from (first + (limits f.format).lines) xs) []) a.columns ∙ ap (λ xs. lined f.format (f.decls ++ xs) []) (sym (reservations_some f s.commute first numbers)))
 
   -- the names of reservations are free one after the other
-  pub locks_free : (k : ℕ) → k < length s.columns → is_used (lined g.format (g.decls ++ take k (locks_from (first + MAX_LINES) s.columns)) []) (new_name (first + MAX_LINES + k)) ≡ false
+  pub locks_free : (k : ℕ) → k < length s.columns → is_used (lined g.format (g.decls ++ take k (locks_from (first + (limits g.format).lines) s.columns)) []) (new_name (first + (limits g.format).lines + k)) ≡ false
   unfolding first_number
   locks_free k h =
-      let free : (i : ℕ) → i < 65536 → is_used f (new_name (number_from f + i)) ≡ false = λ i b. number_free f (ap is_some (sym numbers)) i b in
-      let count : length (locks f) + length s.columns ≤ 64 = ltb-false 64 (length (locks f) + length s.columns) (ap (λ xs. nat_lt 64 (length (locks f) + length xs)) a.columns ∙ a.few) in
+      let free : (i : ℕ) → i < 131072 → is_used f (new_name (number_from f + i)) ≡ false = λ i b. number_free f (ap is_some (sym numbers)) i b in
+      let lines : (limits f.format).lines ≤ 65536 = lines_most f.format in
+      let most : (limits f.format).locks ≤ 1024 = locks_most f.format in
+      let count : length (locks f) + length s.columns ≤ (limits f.format).locks = ltb-false (limits f.format).locks (length (locks f) + length s.columns) (ap (λ xs. nat_lt (limits f.format).locks (length (locks f) + length xs)) a.columns ∙ a.few) in
       let start : first ≡ number_from f = number_is f first numbers in
       let few : first ≤ 100000000000000000 = number_few f first numbers in
-      ap (λ (z : GraphValue). is_used (lined z.format (z.decls ++ take k (locks_from (first + MAX_LINES) s.columns)) []) (new_name (first + MAX_LINES + k))) is
-      ∙ unused_where (lined f.format (f.decls ++ take k (locks_from (first + MAX_LINES) s.columns)) []) (new_name (first + MAX_LINES + k)) (λ d c. elim (Contains-append_cases f.decls (take k (locks_from (first + MAX_LINES) s.columns)) d c) [
-        | inl own ↦ used_decl f (new_name (first + MAX_LINES + k)) (ap (λ z. is_used f (new_name z)) (let e : first + MAX_LINES + k ≡ number_from f + (8192 + k) = omega arith in e) ∙ free (8192 + k) (omega arith)) d own
+      ap (λ (z : GraphValue). is_used (lined z.format (z.decls ++ take k (locks_from (first + (limits z.format).lines) s.columns)) []) (new_name (first + (limits z.format).lines + k))) is
+      ∙ unused_where (lined f.format (f.decls ++ take k (locks_from (first + (limits f.format).lines) s.columns)) []) (new_name (first + (limits f.format).lines + k)) (λ d c. elim (Contains-append_cases f.decls (take k (locks_from (first + (limits f.format).lines) s.columns)) d c) [
+        | inl own ↦ used_decl f (new_name (first + (limits f.format).lines + k)) (ap (λ z. is_used f (new_name z)) (let e : first + (limits f.format).lines + k ≡ number_from f + ((limits f.format).lines + k) = omega arith in e) ∙ free ((limits f.format).lines + k) (omega arith)) d own
         | inr lock ↦ (
-            let r = lock_before (first + MAX_LINES) s.columns k d lock in
+            let r = lock_before (first + (limits f.format).lines) s.columns k d lock in
             let b : r.0 < k = r.1 in
-            λ same. true≢false (sym ((bytes_eq-Decides (new_name (first + MAX_LINES + k)) (new_name (first + MAX_LINES + r.0))).1 (same ∙ ap decl_name r.2)) ∙ new_differ (first + MAX_LINES + k) (first + MAX_LINES + r.0) (omega arith) (omega arith) (λ e. (let q : first + MAX_LINES + k ≡ first + MAX_LINES + r.0 = e in let z : ⊥ = absurd (omega arith) in z))))
+            λ same. true≢false (sym ((bytes_eq-Decides (new_name (first + (limits f.format).lines + k)) (new_name (first + (limits f.format).lines + r.0))).1 (same ∙ ap decl_name r.2)) ∙ new_differ (first + (limits f.format).lines + k) (first + (limits f.format).lines + r.0) (omega arith) (omega arith) (λ e. (let q : first + (limits f.format).lines + k ≡ first + (limits f.format).lines + r.0 = e in let z : ⊥ = absurd (omega arith) in z))))
       ]) (λ l c. absurd (contains_none l c))
 
   -- where the reservations are too much, any line is
-  pub locks_over : 0 < length s.columns → is_beyond (lined g.format (g.decls ++ locks_from (first + MAX_LINES) s.columns) []) ≡ true → is_over f s.commute 0 ≡ true
+  pub locks_over : 0 < length s.columns → is_beyond (lined g.format (g.decls ++ locks_from (first + (limits g.format).lines) s.columns) []) ≡ true → is_over f s.commute 0 ≡ true
   unfolding is_over
   locks_over some h =
       let over : is_beyond (graph_of f s.commute (made_after f s.commute (number_from f) 1)) ≡ true = beyond_more (lined f.format (f.decls ++ reservations f s.commute) []) (made_after f s.commute (number_from f) 1).lines (ap is_beyond (sym locks_declared) ∙ h) in

@@ -9,6 +9,7 @@ use Rattle.std.proofs.lemmas.Option.{none-some, same_Some}
 use Rattle.index_spaces.specs.Space.{has_point, points, Meet}
 use Rattle.index_spaces.specs.Laws.{PointsAreListed}
 use Rattle.graph_terms.specs.declared.verb.Access.{Access}
+use Rattle.graph_terms.specs.Limits.{limits}
 use Rattle.graph_terms.specs.Graph.{GraphValue, space_at, columns, locks}
 use Rattle.flow_order.specs.Bits.{word_bit, is_shown}
 use Rattle.task_flow.specs.Sums.{adds_to, AreSums}
@@ -20,6 +21,7 @@ use Rattle.task_flow.specs.declared.sections.Sections.{Sections}
 use Rattle.task_flow.specs.Making.{AreSections}
 use Rattle.basics.proofs.ListParts.{take_more, take_whole, got_beyond}
 use Rattle.flow_order.proofs.TieSteps.{meets_by}
+use Rattle.task_flow.proofs.Bounds.{locks_most}
 use Rattle.task_flow.proofs.Reservations.{few_before, many_later}
 
 -- the first element that passes a test, among the first elements
@@ -266,15 +268,15 @@ needed_more f commute n old new column contended was at is = is ∙ (ap (λ xs. 
 pub needed_same : (f : GraphValue) (commute : Bool) (n : ℕ) (old : List ℕ) → is_contended f commute n ≡ false → old ≡ needed f commute n → old ≡ needed f commute (n + 1)
 needed_same f commute n old free was = was ∙ sym (needed_one f commute n false free)
 
-pub many_by : (f : GraphValue) (commute : Bool) (n : ℕ) (xs : List ℕ) (a b : ℕ) → xs ≡ needed f commute n → a ≡ length (locks f) → b ≡ length xs → 64 < a + b → wants_many f commute n ≡ true
-many_by f commute n xs a b is ea eb h = ap (λ z. nat_lt 64 (length (locks f) + length z)) (sym is) ∙ lt-ltb 64 (length (locks f) + length xs) (omega arith)
+pub many_by : (f : GraphValue) (commute : Bool) (n : ℕ) (xs : List ℕ) (a b : ℕ) → xs ≡ needed f commute n → a ≡ length (locks f) → b ≡ length xs → (limits f.format).locks < a + b → wants_many f commute n ≡ true
+many_by f commute n xs a b is ea eb h = ap (λ z. nat_lt (limits f.format).locks (length (locks f) + length z)) (sym is) ∙ lt-ltb (limits f.format).locks (length (locks f) + length xs) (omega arith)
 
-pub few_by : (f : GraphValue) (commute : Bool) (n : ℕ) (xs : List ℕ) (a b : ℕ) → xs ≡ needed f commute n → a ≡ length (locks f) → b ≡ length xs → a + b ≤ 64 → wants_many f commute n ≡ false
-few_by f commute n xs a b is ea eb h = ap (λ z. nat_lt 64 (length (locks f) + length z)) (sym is) ∙ le-ltb 64 (length (locks f) + length xs) (omega arith)
+pub few_by : (f : GraphValue) (commute : Bool) (n : ℕ) (xs : List ℕ) (a b : ℕ) → xs ≡ needed f commute n → a ≡ length (locks f) → b ≡ length xs → a + b ≤ (limits f.format).locks → wants_many f commute n ≡ false
+few_by f commute n xs a b is ea eb h = ap (λ z. nat_lt (limits f.format).locks (length (locks f) + length z)) (sym is) ∙ le-ltb (limits f.format).locks (length (locks f) + length xs) (omega arith)
 
 -- where a line is free, no more are wanted
 pub few_same : (f : GraphValue) (commute : Bool) (n : ℕ) → is_contended f commute n ≡ false → wants_many f commute n ≡ false → wants_many f commute (n + 1) ≡ false
-few_same f commute n free few = ap (λ xs. nat_lt 64 (length (locks f) + length xs)) (needed_one f commute n false free) ∙ few
+few_same f commute n free few = ap (λ xs. nat_lt (limits f.format).locks (length (locks f) + length xs)) (needed_one f commute n false free) ∙ few
 
 -- the number of a reservation is small
 most_by : (k n : ℕ) (b : Bool) → k ≤ n → cond b 0 (suc k) ≤ suc n
@@ -285,10 +287,18 @@ place_most : (xs : List ℕ) (c : ℕ) → place_of xs c ≤ length xs
 place_most [] c = omega arith
 place_most (x ∷ xs) c = most_by (place_of xs c) (length xs) (x == c) (place_most xs c)
 
-pub lock_small : (f : GraphValue) (s : Sections) → AreSections f s → (c a b : ℕ) → a ≡ length (locks f) → b ≡ place_of s.columns c → a + b ≤ 64
+pub lock_small : (f : GraphValue) (s : Sections) → AreSections f s → (c a b : ℕ) → a ≡ length (locks f) → b ≡ place_of s.columns c → a + b ≤ 1024
 lock_small f s r c a b ea eb =
     let p : place_of s.columns c ≤ length s.columns = place_most s.columns c in
-    let count : length (locks f) + length s.columns ≤ 64 = ltb-false 64 (length (locks f) + length s.columns) (ap (λ xs. nat_lt 64 (length (locks f) + length xs)) r.columns ∙ r.few) in
+    let most : (limits f.format).locks ≤ 1024 = locks_most f.format in
+    let count : length (locks f) + length s.columns ≤ (limits f.format).locks = ltb-false (limits f.format).locks (length (locks f) + length s.columns) (ap (λ xs. nat_lt (limits f.format).locks (length (locks f) + length xs)) r.columns ∙ r.few) in
+    omega arith
+
+-- the reservations of contended sums are few
+pub columns_few : (f : GraphValue) (s : Sections) → AreSections f s → length s.columns ≤ 1024
+columns_few f s r =
+    let most : (limits f.format).locks ≤ 1024 = locks_most f.format in
+    let count : length (locks f) + length s.columns ≤ (limits f.format).locks = ltb-false (limits f.format).locks (length (locks f) + length s.columns) (ap (λ xs. nat_lt (limits f.format).locks (length (locks f) + length xs)) r.columns ∙ r.few) in
     omega arith
 
 -- with this line the reservations are too many

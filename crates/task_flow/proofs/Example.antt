@@ -3,12 +3,12 @@ use Rattle.std.proofs.Common.{◌≡◌, ℕ, true, false, List, [], ◌∷◌, 
 use Rattle.std.specs.Prelude.{codes}
 use Rattle.index_spaces.specs.declared.Op.TheVariants as op
 use Rattle.graph_terms.specs.declared.decl.Decl.TheVariants.{Space, Inst, Lock}
-use Rattle.graph_terms.specs.declared.format.Format.TheVariants.{One}
+use Rattle.graph_terms.specs.declared.format.Format.TheVariants.{One, Three}
 use Rattle.graph_terms.specs.declared.verb.Line.{Line}
 use Rattle.graph_terms.specs.declared.verb.Verb.{Verb}
 use Rattle.graph_terms.specs.declared.verb.Verb.TheVariants as verb
 use Rattle.graph_terms.specs.declared.table.Kernel.TheVariants as kernel
-use Rattle.graph_terms.specs.Graph.{GraphValue}
+use Rattle.graph_terms.specs.Graph.{GraphValue, written_in}
 use Rattle.task_flow.specs.Construction.{new_name, first_number, number_from, is_contended, reservations, written}
 
 abbrev own : List ℕ → Verb → Line
@@ -50,3 +50,14 @@ in_sections : written small true ≡ record {
 }
 unfolding written reservations is_contended number_from first_number
 in_sections = refl
+
+-- in format 3 without merges
+without_merges : written (written_in Three small) false ≡ record {
+  format = Three;
+  decls = Space (codes "s") ((0, 3) ∷ []) ∷ Inst (codes "a") 0 (codes "x" ∷ codes "y" ∷ codes "z" ∷ []) ∷ [];
+  lines = own (codes "f") (verb.Fill 0 0 1) ∷ own (codes "g") (verb.Fill 1 0 2)
+      ∷ record { name = codes "h"; «verb» = verb.Reduce op.Sum 0 1 0; «on» = 1 ∷ 0 ∷ [] }
+      ∷ waiting (codes "i") (verb.Task (kernel.Axpy 0 1 0 3)) 2 ∷ waiting (codes "c") (verb.Copy 1 2 0) 3 ∷ [];
+}
+unfolding written reservations is_contended number_from first_number
+without_merges = refl

@@ -5,7 +5,7 @@ use Rattle.std.specs.Option.{option_map_or}
 use Rattle.std.specs.List.{list_any, list_all, range_with_len, AllByRecursion}
 use Rattle.std.specs.Str.{bytes_eq}
 use Rattle.std.proofs.Math.Nat.{pow-le-pow_right, pow-suc}
-use Rattle.std.proofs.lemmas.Bool.{true≢false, cases_order, or_parts, or_cases, or_left, or_right, false_from_ne_true, ltb-true, lt-ltb, leb-true, eqb-true, not-true}
+use Rattle.std.proofs.lemmas.Bool.{true≢false, cases_order, or_parts, or_cases, or_left, or_right, and_parts, and_from, false_from_ne_true, ltb-true, lt-ltb, leb-true, eqb-true, not-true}
 use Rattle.std.proofs.lemmas.Option.{none-some, same_Some, slice_get_within, slice_get-get_or}
 use Rattle.std.proofs.lemmas.Slice.Eq.{bytes_eq-Decides}
 use Rattle.std.proofs.lemmas.List.Elements.{Contains-append_cases, Contains-append_left, Contains-append_right}
@@ -25,22 +25,25 @@ use Rattle.graph_terms.specs.declared.verb.Verb.{Verb}
 use Rattle.graph_terms.specs.declared.verb.Verb.TheVariants.{User, Trigger, Cancel, Merge, MergeIgnore, Phase, Arrive, Acquire, Release, Fill, Copy, Reduce, Task}
 use Rattle.graph_terms.specs.declared.why.Why.TheVariants as why
 use Rattle.graph_terms.specs.Graph.{GraphValue, decl_name, lock_of, named_spaces, columns, locks, barriers, line_passes, is_acquire, is_release_of}
-use Rattle.graph_terms.specs.declared.limits.TheConstants.{MAX_INSTS, MAX_COLUMNS, MAX_CELLS, MAX_LOCKS, MAX_BARRIERS}
+use Rattle.graph_terms.specs.declared.limits.TheConstants.{MAX_TEXT, MAX_SPACES}
+use Rattle.graph_terms.specs.Limits.{limits}
 use Rattle.graph_terms.specs.Name.{is_name_in}
 use Rattle.graph_terms.specs.Access.{verb_accesses}
 use Rattle.graph_terms.specs.Edges.{edges, line_edges}
-use Rattle.graph_terms.specs.Fits.{first_reason, repeats, names, is_used, is_inst, cell_count, with_line, is_beyond, verb_repeats, named_lines, line_unknown, verb_unknown, verb_unlike, takes_no_on, on_unlike, format_lacks, verb_misnumbered, access_unknown, access_outside, arrives_late, most_events, merged_events, names_many, line_tests, line_fault, LinesFit}
+use Rattle.graph_terms.specs.Fits.{first_reason, repeats, names, is_used, is_inst, cell_count, with_line, has_many_spaces, is_beyond, verb_repeats, named_lines, line_unknown, verb_unknown, verb_unlike, takes_no_on, on_unlike, format_lacks, verb_misnumbered, access_unknown, access_outside, arrives_late, merged_events, names_many, line_tests, line_fault, LinesFit}
 use Rattle.graph_terms.specs.Spelling.{head, spelled, line_words}
 use Rattle.graph_terms.proofs.Public.{none_first, head_with_line, edges_push}
 use Rattle.flow_order.specs.Flow.{IsFlow, uses_columns}
 use Rattle.flow_order.specs.Written.{IsLock, orders_alone}
-use Rattle.task_flow.specs.Construction.{Made, is_contended, lock_for, new_name, takes_width, place_in, no_line, line_in, reservations, graph_of}
+use Rattle.task_flow.specs.Construction.{Made, most_on, is_contended, lock_for, new_name, takes_width, place_in, no_line, line_in, reservations, graph_of}
 use Rattle.task_flow.specs.Fitting.{lined, with_lines, AreToFit}
 use Rattle.task_flow.specs.Making.{IsPast}
 use Rattle.task_flow.proofs.Names.{new_is_name, in_each, new_differ, unused}
 use Rattle.task_flow.proofs.NameScan.{is_free, power_most}
 use Rattle.basics.proofs.Choices.{both_not}
-use Rattle.task_flow.proofs.Standing.{IsOwn, IsSection, Standing, new_line, own_uses}
+use Rattle.task_flow.proofs.Bounds.{lines_most}
+use Rattle.task_flow.proofs.Growth.{some_merged}
+use Rattle.task_flow.proofs.Standing.{one_on, IsOwn, IsSection, Standing, new_line, own_uses}
 use Rattle.task_flow.proofs.Reservations.{spaces_stay, columns_stay}
 
 -- a line of lines that fit fits after those before it
@@ -120,23 +123,28 @@ no_and false b h = refl
 few_not : (most n : ℕ) → n ≤ most → nat_lt most n ≡ false
 few_not most n h = false_from_ne_true (nat_lt most n) (λ b. (let c : most < n = ltb-true most n b in let no : ⊥ = absurd (omega arith) in no))
 
--- one event behind `on` is right in each format, and none is right of each verb
-one_event : (fm : Format) (v : Verb) (on : List ℕ) → takes_no_on v ≡ false → length on ≤ 1 → on_unlike fm v on ≡ false
-one_event fm v on takes few = both_not (takes_no_on v && nat_lt 0 (length on)) _ (and_no (takes_no_on v) (nat_lt 0 (length on)) takes) (no_and (not (has_since Three fm)) (nat_lt 1 (length on)) (few_not 1 (length on) few))
+-- so many events behind `on` as the format has are right, and none is right of each verb
+few_behind : (fm : Format) (n : ℕ) → n ≤ most_on fm → (not (has_since Three fm) && nat_lt 1 n) ≡ false
+few_behind One n h = no_and true (nat_lt 1 n) (few_not 1 n h)
+few_behind Two n h = no_and true (nat_lt 1 n) (few_not 1 n h)
+few_behind Three n h = refl
+
+few_events : (fm : Format) (v : Verb) (on : List ℕ) → takes_no_on v ≡ false → length on ≤ most_on fm → on_unlike fm v on ≡ false
+few_events fm v on takes few = both_not (takes_no_on v && nat_lt 0 (length on)) _ (and_no (takes_no_on v) (nat_lt 0 (length on)) takes) (few_behind fm (length on) few)
 
 no_event : (fm : Format) (v : Verb) → on_unlike fm v [] ≡ false
 no_event fm v = both_not (takes_no_on v && false) _ (no_and (takes_no_on v) false refl) (no_and (not (has_since Three fm)) false refl)
 
--- as many events as a merge of format 1 names are few in each format
-most_some : (fm : Format) → 64 ≤ most_events fm
-most_some One = lit≤ tt
-most_some Two = lit≤ tt
-most_some Three = lit≤ tt
+-- no more stand behind `on` than a merge names
+on_as_merged : (fm : Format) → most_on fm ≤ (limits fm).events
+on_as_merged One = lit≤ tt
+on_as_merged Two = lit≤ tt
+on_as_merged Three = lit≤ tt
 
-names_few : (fm : Format) (v : Verb) (on : List ℕ) → length (merged_events v) ≤ 64 → length on ≤ 1 → names_many fm v on ≡ false
+names_few : (fm : Format) (v : Verb) (on : List ℕ) → length (merged_events v) ≤ (limits fm).events → length on ≤ most_on fm → names_many fm v on ≡ false
 names_few fm v on merged few =
-    let most : 64 ≤ most_events fm = most_some fm in
-    both_not (nat_lt (most_events fm) (length (merged_events v))) _ (few_not (most_events fm) (length (merged_events v)) (omega arith)) (few_not (most_events fm) (length on) (omega arith))
+    let most : most_on fm ≤ (limits fm).events = on_as_merged fm in
+    both_not (nat_lt (limits fm).events (length (merged_events v))) _ (few_not (limits fm).events (length (merged_events v)) merged) (few_not (limits fm).events (length on) (omega arith))
 
 same_line : (l : Line) (v : Verb) (o : List ℕ) → l.verb ≡ v → l.on ≡ o → record { name = l.name; verb = v; «on» = o } ≡ l
 same_line l v o e f = ap (λ z. record { name = l.name; verb = z; «on» = o }) (sym e) ∙ ap (λ z. record { name = l.name; verb = l.verb; «on» = z }) (sym f)
@@ -155,7 +163,7 @@ outside_same : (g h : GraphValue) (xs : List Access) → columns g ≡ columns h
 outside_same g h xs c s = ap (λ cs. list_any (outside_by cs (named_spaces g)) xs) c ∙ ap (λ ss. list_any (outside_by (columns h) ss) xs) s
 
 -- a line of a flow after other lines
-own_fault : (g own : GraphValue) → columns g ≡ columns own → named_spaces g ≡ named_spaces own → (l : Line) (name on : List ℕ) → uses_columns l.verb ≡ true → line_fault own l ≡ None → is_used g name ≡ false → ((e : ℕ) → Contains on e → e < length g.lines) → repeats nat_eq on ≡ false → length on ≤ 1 →
+own_fault : (g own : GraphValue) → columns g ≡ columns own → named_spaces g ≡ named_spaces own → (l : Line) (name on : List ℕ) → uses_columns l.verb ≡ true → line_fault own l ≡ None → is_used g name ≡ false → ((e : ℕ) → Contains on e → e < length g.lines) → repeats nat_eq on ≡ false → length on ≤ most_on g.format →
     line_fault g (record { name = name; verb = l.verb; «on» = on }) ≡ cond (is_beyond (with_line g (record { name = name; verb = l.verb; «on» = on }))) (Some why.Limit) None
 own_fault g own cols spaces l name on uses fits fresh below once few =
     let v = l.verb in
@@ -170,12 +178,12 @@ own_fault g own cols spaces l name on uses fits fresh below once few =
     six_false (is_used g name || (verb_repeats g v || (repeats nat_eq used || repeats nat_eq on))) (line_unknown g new) (verb_unlike g v || (on_unlike g.format v on || format_lacks g.format v)) (verb_misnumbered g.format v) (list_any (access_outside g) (verb_accesses v)) (arrives_late g v) (names_many g.format v on || is_beyond (with_line g new))
     (both_not (is_used g name) _ fresh (both_not (verb_repeats g v) _ c.twice (both_not (repeats nat_eq used) (repeats nat_eq on) apart.0 once)))
     (both_not (list_any (λ i. nat_le (length g.lines) i) (named_lines v ++ on)) _ (ap (λ xs. list_any (λ i. nat_le (length g.lines) i) (xs ++ on)) c.named ∙ none_past on (length g.lines) below) (both_not (verb_unknown g v) _ c.unknown (unknown_same g own (verb_accesses v) cols spaces ∙ known.1)))
-    (both_not (verb_unlike g v) _ c.unlike (both_not (on_unlike g.format v on) _ (one_event g.format v on c.bare few) (own_in_format g.format v uses)))
+    (both_not (verb_unlike g v) _ c.unlike (both_not (on_unlike g.format v on) _ (few_events g.format v on c.bare few) (own_in_format g.format v uses)))
     c.number (outside_same g own (verb_accesses v) cols spaces ∙ within) c.late
     ∙ ap (λ b. cond (b || is_beyond (with_line g new)) (Some why.Limit) None) (names_few g.format v on (omega arith) few)
 
 -- a merge after other lines
-merge_fault : (g : GraphValue) (name es : List ℕ) → is_used g name ≡ false → repeats nat_eq es ≡ false → 0 < length es → length es ≤ 64 → ((e : ℕ) → Contains es e → e < length g.lines) →
+merge_fault : (g : GraphValue) (name es : List ℕ) → is_used g name ≡ false → repeats nat_eq es ≡ false → 0 < length es → length es ≤ (limits g.format).events → ((e : ℕ) → Contains es e → e < length g.lines) →
     line_fault g (record { name = name; verb = Merge es; «on» = [] }) ≡ cond (is_beyond (with_line g (record { name = name; verb = Merge es; «on» = [] }))) (Some why.Limit) None
 merge_fault g name es fresh once some few below =
     let new : Line = record { name = name; verb = Merge es; «on» = [] } in
@@ -183,21 +191,21 @@ merge_fault g name es fresh once some few below =
     (both_not (is_used g name) _ fresh (both_not (repeats nat_eq es) false once refl))
     (both_not (list_any (λ i. nat_le (length g.lines) i) (es ++ [])) _ (ap (list_any (λ i. nat_le (length g.lines) i)) (append-nil es) ∙ none_past es (length g.lines) below) refl)
     (both_not (on_unlike g.format (Merge es) []) _ (no_event g.format (Merge es)) (alone_in_format g.format (Merge es) refl)) (few_not_none es some) refl refl
-    ∙ ap (λ b. cond (b || is_beyond (with_line g new)) (Some why.Limit) None) (names_few g.format (Merge es) [] few (let z : 0 ≤ 1 = omega arith in z))
+    ∙ ap (λ b. cond (b || is_beyond (with_line g new)) (Some why.Limit) None) (names_few g.format (Merge es) [] few (let z : 0 ≤ most_on g.format = omega arith in z))
   where
     few_not_none : (es : List ℕ) → 0 < length es → nat_lt (length es) 1 ≡ false
     few_not_none es some = false_from_ne_true (nat_lt (length es) 1) (λ h. (let b : length es < 1 = ltb-true (length es) 1 h in let no : ⊥ = absurd (omega arith) in no))
 
 -- the lines of a section after other lines
-acquire_fault : (g : GraphValue) (name : List ℕ) (lock : ℕ) (on : List ℕ) → is_used g name ≡ false → lock < length (locks g) → ((e : ℕ) → Contains on e → e < length g.lines) → repeats nat_eq on ≡ false → length on ≤ 1 →
+acquire_fault : (g : GraphValue) (name : List ℕ) (lock : ℕ) (on : List ℕ) → is_used g name ≡ false → lock < length (locks g) → ((e : ℕ) → Contains on e → e < length g.lines) → repeats nat_eq on ≡ false → length on ≤ most_on g.format →
     line_fault g (record { name = name; verb = Acquire lock false; «on» = on }) ≡ cond (is_beyond (with_line g (record { name = name; verb = Acquire lock false; «on» = on }))) (Some why.Limit) None
 acquire_fault g name lock on fresh known below once few =
     let new : Line = record { name = name; verb = Acquire lock false; «on» = on } in
     six_false (is_used g name || repeats nat_eq on) (line_unknown g new) (on_unlike g.format (Acquire lock false) on || format_lacks g.format (Acquire lock false)) false false false (names_many g.format (Acquire lock false) on || is_beyond (with_line g new))
     (both_not (is_used g name) _ fresh once)
     (both_not (list_any (λ i. nat_le (length g.lines) i) on) _ (none_past on (length g.lines) below) (both_not (nat_le (length (locks g)) lock) false (false_from_ne_true (nat_le (length (locks g)) lock) (λ h. (let b : length (locks g) ≤ lock = leb-true (length (locks g)) lock h in let no : ⊥ = absurd (omega arith) in no))) refl))
-    (both_not (on_unlike g.format (Acquire lock false) on) _ (one_event g.format (Acquire lock false) on refl few) (alone_in_format g.format (Acquire lock false) refl)) refl refl refl
-    ∙ ap (λ b. cond (b || is_beyond (with_line g new)) (Some why.Limit) None) (names_few g.format (Acquire lock false) on (let z : 0 ≤ 64 = omega arith in z) few)
+    (both_not (on_unlike g.format (Acquire lock false) on) _ (few_events g.format (Acquire lock false) on refl few) (alone_in_format g.format (Acquire lock false) refl)) refl refl refl
+    ∙ ap (λ b. cond (b || is_beyond (with_line g new)) (Some why.Limit) None) (names_few g.format (Acquire lock false) on (let z : 0 ≤ (limits g.format).events = omega arith in z) few)
 
 ignore_fault : (g : GraphValue) (name : List ℕ) (e : ℕ) → is_used g name ≡ false → e < length g.lines →
     line_fault g (record { name = name; verb = MergeIgnore (e ∷ []); «on» = [] }) ≡ cond (is_beyond (with_line g (record { name = name; verb = MergeIgnore (e ∷ []); «on» = [] }))) (Some why.Limit) None
@@ -207,7 +215,7 @@ ignore_fault g name e fresh below =
     (both_not (is_used g name) false fresh refl)
     (both_not (list_any (λ i. nat_le (length g.lines) i) (e ∷ [])) _ (none_past (e ∷ []) (length g.lines) (λ x c. elim (contains_cases e [] x c) [ inl same ↦ subst (λ z. z < length g.lines) same below | inr none ↦ absurd (contains_none x none) ])) refl)
     (both_not (on_unlike g.format (MergeIgnore (e ∷ [])) []) _ (no_event g.format (MergeIgnore (e ∷ []))) (alone_in_format g.format (MergeIgnore (e ∷ [])) refl)) refl refl refl
-    ∙ ap (λ b. cond (b || is_beyond (with_line g new)) (Some why.Limit) None) (names_few g.format (MergeIgnore (e ∷ [])) [] (let z : 1 ≤ 64 = omega arith in z) (let z : 0 ≤ 1 = omega arith in z))
+    ∙ ap (λ b. cond (b || is_beyond (with_line g new)) (Some why.Limit) None) (names_few g.format (MergeIgnore (e ∷ [])) [] (let two : 2 ≤ (limits g.format).events = some_merged g.format in let z : 1 ≤ (limits g.format).events = omega arith in z) (let z : 0 ≤ most_on g.format = omega arith in z))
 
 release_fault : (g : GraphValue) (name : List ℕ) (q e : ℕ) → is_used g name ≡ false → list_any (λ (l : Line). is_release_of q l.verb) g.lines ≡ false → line_passes is_acquire g q ≡ true → q < length g.lines → e < length g.lines →
     line_fault g (record { name = name; verb = Release q; «on» = e ∷ [] }) ≡ cond (is_beyond (with_line g (record { name = name; verb = Release q; «on» = e ∷ [] }))) (Some why.Limit) None
@@ -219,8 +227,8 @@ release_fault g name q e fresh once acquires above below =
       | inl same ↦ subst (λ z. z < length g.lines) same above
       | inr rest ↦ elim (contains_cases e [] x rest) [ inl same ↦ subst (λ z. z < length g.lines) same below | inr none ↦ absurd (contains_none x none) ]
     ])) refl)
-    (both_not (not (line_passes is_acquire g q)) _ (ap not acquires) (both_not (on_unlike g.format (Release q) (e ∷ [])) _ (one_event g.format (Release q) (e ∷ []) refl (let z : 1 ≤ 1 = omega arith in z)) (alone_in_format g.format (Release q) refl))) refl refl refl
-    ∙ ap (λ b. cond (b || is_beyond (with_line g new)) (Some why.Limit) None) (names_few g.format (Release q) (e ∷ []) (let z : 0 ≤ 64 = omega arith in z) (let z : 1 ≤ 1 = omega arith in z))
+    (both_not (not (line_passes is_acquire g q)) _ (ap not acquires) (both_not (on_unlike g.format (Release q) (e ∷ [])) _ (few_events g.format (Release q) (e ∷ []) refl (one_on g.format)) (alone_in_format g.format (Release q) refl))) refl refl refl
+    ∙ ap (λ b. cond (b || is_beyond (with_line g new)) (Some why.Limit) None) (names_few g.format (Release q) (e ∷ []) (let z : 0 ≤ (limits g.format).events = omega arith in z) (one_on g.format))
 
 own_releases : (q : ℕ) (v : Verb) → uses_columns v ≡ true → is_release_of q v ≡ false
 own_releases q User h = absurd (true≢false (sym h))
@@ -273,10 +281,13 @@ got_before (x ∷ xs) ys zero h = refl
 got_before (x ∷ xs) ys (suc k) h = got_before xs ys k (let b : suc k < suc (length xs) = h in omega arith)
 
 -- the lines of what stands fit one after the other, behind the declarations of the flow and these reservations
-module _ (f : GraphValue) (commute : Bool) (flow : IsFlow f) (n : ℕ) (within : n ≤ length f.lines) (m : Made) (labels : List (List ℕ)) (st : Standing f commute n m labels) (few : length m.lines ≤ 8192) (small : m.first + 65536 ≤ 2 ^ 64)
-    (rs : List Decl) (are : AllByRecursion IsLock rs) (reserved : (d : Decl) → Contains rs d → (k : ℕ) × (k < 64) × (d ≡ Lock (new_name (m.first + (8192 + k)))) × (is_used f (new_name (m.first + (8192 + k))) ≡ false))
+module _ (f : GraphValue) (commute : Bool) (flow : IsFlow f) (n : ℕ) (within : n ≤ length f.lines) (m : Made) (labels : List (List ℕ)) (st : Standing f commute n m labels) (few : length m.lines ≤ (limits f.format).lines) (small : m.first + 131072 ≤ 2 ^ 64)
+    (rs : List Decl) (are : AllByRecursion IsLock rs) (reserved : (d : Decl) → Contains rs d → (k : ℕ) × (k < 1024) × (d ≡ Lock (new_name (m.first + ((limits f.format).lines + k)))) × (is_used f (new_name (m.first + ((limits f.format).lines + k))) ≡ false))
     (room : 0 < st.guards → (i : ℕ) → i < n → is_contended f commute i ≡ true → lock_for f commute i < length (filter_map lock_of (f.decls ++ rs)))
-    (fresh : (k : ℕ) → k < 8192 → (is_used f (new_name (m.first + k)) ≡ false) ⊎ ((m.merges ≡ []) × (st.guards ≡ 0))) where
+    (fresh : (k : ℕ) → k < (limits f.format).lines → (is_used f (new_name (m.first + k)) ≡ false) ⊎ ((m.merges ≡ []) × (st.guards ≡ 0))) where
+  own_lines : (limits f.format).lines ≤ 65536
+  own_lines = lines_most f.format
+
   own_fits : (i : ℕ) → i < n → line_fault (lined f.format f.decls (take i f.lines)) (line_in f i) ≡ None
   own_fits i h = fits_after f.format f.decls [] f.lines flow.fits.lines i (line_in f i) (slice_get-get_or f.lines i no_line (omega arith))
 
@@ -309,7 +320,7 @@ module _ (f : GraphValue) (commute : Bool) (flow : IsFlow f) (n : ℕ) (within :
         )
       ]
 
-  differ : (i j : ℕ) → i < 65536 → j < 65536 → i ≢ j → new_name (m.first + i) ≢ new_name (m.first + j)
+  differ : (i j : ℕ) → i < 131072 → j < 131072 → i ≢ j → new_name (m.first + i) ≢ new_name (m.first + j)
   differ i j a b ne same = true≢false (sym ((bytes_eq-Decides (new_name (m.first + i)) (new_name (m.first + j))).1 same) ∙ new_differ (m.first + i) (m.first + j) (omega arith) (omega arith) (λ e. ne (let z : i ≡ j = omega arith in z)))
 
   not_decl : (k : ℕ) (l : Line) → slice_get m.lines k ≡ Some l → (d : Decl) → Contains (f.decls ++ rs) d → l.name ≢ decl_name d
@@ -321,10 +332,11 @@ module _ (f : GraphValue) (commute : Bool) (flow : IsFlow f) (n : ℕ) (within :
     | inr lock ↦ (
         let r = reserved d lock in
         let below : k < length m.lines = slice_get_within m.lines k l at in
-        let less : r.0 < 64 = r.1 in
+        let less : r.0 < 1024 = r.1 in
+        let lines : (limits f.format).lines ≤ 65536 = own_lines in
         elim (line_name k l at) [
-          | inl o ↦ (λ same. used_line f (new_name (m.first + (8192 + r.0))) r.3 (line_in f o.line) (got_contains f.lines o.line (line_in f o.line) (own_got o.line o.below)) (sym (ap decl_name r.2) ∙ (sym same ∙ o.name)))
-          | inr o ↦ (λ same. differ k (8192 + r.0) (omega arith) (omega arith) (λ e. (let q : k ≡ 8192 + r.0 = e in let no : ⊥ = absurd (omega arith) in no)) (sym o.0 ∙ (same ∙ ap decl_name r.2)))
+          | inl o ↦ (λ same. used_line f (new_name (m.first + ((limits f.format).lines + r.0))) r.3 (line_in f o.line) (got_contains f.lines o.line (line_in f o.line) (own_got o.line o.below)) (sym (ap decl_name r.2) ∙ (sym same ∙ o.name)))
+          | inr o ↦ (λ same. differ k ((limits f.format).lines + r.0) (omega arith) (omega arith) (λ e. (let q : k ≡ (limits f.format).lines + r.0 = e in let no : ⊥ = absurd (omega arith) in no)) (sym o.0 ∙ (same ∙ ap decl_name r.2)))
         ])
   ]
 
@@ -344,6 +356,7 @@ module _ (f : GraphValue) (commute : Bool) (flow : IsFlow f) (n : ℕ) (within :
       | inl p ↦ (λ same. used_line f l.name (ap (is_used f) o.0 ∙ o.1) (line_in f p.line) (got_contains f.lines p.line (line_in f p.line) (own_got p.line p.below)) (same ∙ p.name))
       | inr p ↦ (λ same.
           let below : k < length m.lines = slice_get_within m.lines k l at in
+          let lines : (limits f.format).lines ≤ 65536 = own_lines in
           differ k j (omega arith) (omega arith) (λ e. (let q : k ≡ j = e in let no : ⊥ = absurd (omega arith) in no)) (sym o.0 ∙ (same ∙ p.0)))
     ]
   ]
@@ -376,7 +389,7 @@ module _ (f : GraphValue) (commute : Bool) (flow : IsFlow f) (n : ℕ) (within :
         | inl a ↦ (
             let line = section_line (length b) q l _ at a s.acquire in
             subst (FitsAt b) (same_line l (Acquire (lock_for f commute s.line) false) s.on (ap (λ (z : Line). z.verb) line) (ap (λ (z : Line). z.on) line))
-            (acquire_fault (lined f.format (f.decls ++ rs) b) l.name (lock_for f commute s.line) s.on free (room some s.line s.below s.contended) (subst (λ z. (e : ℕ) → Contains s.on e → e < z) (sym a) (s.waits).below) (s.waits).once (s.waits).few))
+            (acquire_fault (lined f.format (f.decls ++ rs) b) l.name (lock_for f commute s.line) s.on free (room some s.line s.below s.contended) (subst (λ z. (e : ℕ) → Contains s.on e → e < z) (sym a) (s.waits).below) (s.waits).once s.few))
         | inr (inl a) ↦ (
             let line = section_line (length b) (q + 2) l _ at a s.merge in
             subst (FitsAt b) (same_line l (MergeIgnore ((q + 1) ∷ [])) [] (ap (λ (z : Line). z.verb) line) (ap (λ (z : Line). z.on) line))
@@ -399,8 +412,8 @@ module _ (f : GraphValue) (commute : Bool) (flow : IsFlow f) (n : ℕ) (within :
       let free : is_used (lined f.format (f.decls ++ rs) b) l.name ≡ false = name_free b l rest is in
       elim (st.each (length b) l at) [
         | inl o ↦ subst (FitsAt b) (same_line l (line_in f o.line).verb l.on o.verb refl)
-            (own_fault (lined f.format (f.decls ++ rs) b) (lined f.format f.decls (take o.line f.lines)) (columns_stay f.decls rs are) (spaces_stay f.decls rs are) (line_in f o.line) l.name l.on (own_uses f commute flow n within o.line o.below) (own_fits o.line o.below) free (o.waits).below (o.waits).once (o.waits).few)
-        | inr (inl o) ↦ subst (FitsAt b) (same_line l (Merge o.events) [] o.verb o.on) (merge_fault (lined f.format (f.decls ++ rs) b) l.name o.events free o.once o.some o.few o.below)
+            (own_fault (lined f.format (f.decls ++ rs) b) (lined f.format f.decls (take o.line f.lines)) (columns_stay f.decls rs are) (spaces_stay f.decls rs are) (line_in f o.line) l.name l.on (own_uses f commute flow n within o.line o.below) (own_fits o.line o.below) free (o.waits).below (o.waits).once o.few)
+        | inr (inl o) ↦ subst (FitsAt b) (same_line l (Merge o.events) [] o.verb o.on) (merge_fault (lined f.format (f.decls ++ rs) b) l.name o.events free o.once o.some (subst (λ fm. length o.events ≤ (limits fm).events) st.format o.few) o.below)
         | inr (inr o) ↦ section_fits b l rest is free o.0 o.1 o.2 o.3
       ]
 
@@ -408,6 +421,7 @@ module _ (f : GraphValue) (commute : Bool) (flow : IsFlow f) (n : ℕ) (within :
   named_at b l rest is =
       let at : slice_get m.lines (length b) ≡ Some l = ap (λ xs. slice_get xs (length b)) is ∙ got_behind b l rest in
       let below : length b < length m.lines = slice_get_within m.lines (length b) l at in
+      let lines : (limits f.format).lines ≤ 65536 = own_lines in
       elim (line_name (length b) l at) [
         | inl o ↦ ap (is_name_in f.format) o.name ∙ named_after f.format f.decls [] f.lines flow.fits.lines o.line (line_in f o.line) (own_got o.line o.below)
         | inr o ↦ ap (is_name_in f.format) o.0 ∙ in_each f.format (new_name (m.first + length b)) (new_is_name (m.first + length b) (omega arith))
@@ -424,12 +438,22 @@ or_more a a' b b' f g h = elim (or_cases a b h) [ inl l ↦ or_left a' b' (f l) 
 pub lt_more : (c x y : ℕ) → x ≤ y → nat_lt c x ≡ true → nat_lt c y ≡ true
 lt_more c x y h l = let a : c < x = ltb-true c x l in lt-ltb c y (omega arith)
 
-or_eight : (t t' i c e k b n n' d d' : Bool) → (t ≡ true → t' ≡ true) → (n ≡ true → n' ≡ true) → (d ≡ true → d' ≡ true) → (t || (i || (c || (e || (k || (b || (n || d))))))) ≡ true → (t' || (i || (c || (e || (k || (b || (n' || d'))))))) ≡ true
-or_eight t t' i c e k b n n' d d' f g h = or_more t t' (i || (c || (e || (k || (b || (n || d)))))) (i || (c || (e || (k || (b || (n' || d')))))) f (or_more i i (c || (e || (k || (b || (n || d))))) (c || (e || (k || (b || (n' || d'))))) (λ x. x)
-    (or_more c c (e || (k || (b || (n || d)))) (e || (k || (b || (n' || d')))) (λ x. x) (or_more e e (k || (b || (n || d))) (k || (b || (n' || d'))) (λ x. x) (or_more k k (b || (n || d)) (b || (n' || d')) (λ x. x) (or_more b b (n || d) (n' || d') (λ x. x) (or_more n n' d d' g h))))))
+and_more : (a a' b b' : Bool) → (a ≡ true → a' ≡ true) → (b ≡ true → b' ≡ true) → (a && b) ≡ true → (a' && b') ≡ true
+and_more a a' b b' f g h = let p = and_parts a b h in and_from a' b' (f p.0) (g p.1)
 
-or_seventh : (t i c e k b n d : Bool) → n ≡ true → (t || (i || (c || (e || (k || (b || (n || d))))))) ≡ true
-or_seventh t i c e k b n d h = or_right t (i || (c || (e || (k || (b || (n || d)))))) (or_right i (c || (e || (k || (b || (n || d))))) (or_right c (e || (k || (b || (n || d)))) (or_right e (k || (b || (n || d))) (or_right k (b || (n || d)) (or_right b (n || d) (or_left n d h))))))
+-- a text that grows, and spaces that stay
+pub spaces_more : (g h : GraphValue) → named_spaces h ≡ named_spaces g → length (head g) ≤ length (head h) → has_many_spaces g ≡ true → has_many_spaces h ≡ true
+spaces_more g h same text = and_more (nat_lt MAX_SPACES (length (named_spaces g))) (nat_lt MAX_SPACES (length (named_spaces h))) (nat_lt MAX_TEXT (length (head g))) (nat_lt MAX_TEXT (length (head h)))
+    (λ e. ap (λ ss. nat_lt MAX_SPACES (length ss)) same ∙ e) (lt_more MAX_TEXT (length (head g)) (length (head h)) text)
+
+or_nine : (t t' s s' i c e k b n n' d d' : Bool) → (t ≡ true → t' ≡ true) → (s ≡ true → s' ≡ true) → (n ≡ true → n' ≡ true) → (d ≡ true → d' ≡ true) → (t || (s || (i || (c || (e || (k || (b || (n || d)))))))) ≡ true → (t' || (s' || (i || (c || (e || (k || (b || (n' || d')))))))) ≡ true
+or_nine t t' s s' i c e k b n n' d d' f p g h = or_more t t' (s || (i || (c || (e || (k || (b || (n || d))))))) (s' || (i || (c || (e || (k || (b || (n' || d'))))))) f (or_more s s' (i || (c || (e || (k || (b || (n || d)))))) (i || (c || (e || (k || (b || (n' || d')))))) p
+    (or_more i i (c || (e || (k || (b || (n || d))))) (c || (e || (k || (b || (n' || d'))))) (λ x. x) (or_more c c (e || (k || (b || (n || d)))) (e || (k || (b || (n' || d')))) (λ x. x) (or_more e e (k || (b || (n || d))) (k || (b || (n' || d'))) (λ x. x)
+    (or_more k k (b || (n || d)) (b || (n' || d')) (λ x. x) (or_more b b (n || d) (n' || d') (λ x. x) (or_more n n' d d' g h)))))))
+
+or_eighth : (t s i c e k b n d : Bool) → n ≡ true → (t || (s || (i || (c || (e || (k || (b || (n || d)))))))) ≡ true
+or_eighth t s i c e k b n d h = or_right t (s || (i || (c || (e || (k || (b || (n || d))))))) (or_right s (i || (c || (e || (k || (b || (n || d)))))) (or_right i (c || (e || (k || (b || (n || d))))) (or_right c (e || (k || (b || (n || d))))
+    (or_right e (k || (b || (n || d))) (or_right k (b || (n || d)) (or_right b (n || d) (or_left n d h)))))))
 
 beyond_line : (g : GraphValue) (l : Line) → is_beyond g ≡ true → is_beyond (with_line g l) ≡ true
 beyond_line g l h =
@@ -440,20 +464,26 @@ beyond_line g l h =
     let more : length (edges g) ≤ length (edges (with_line g l)) = (
     let is : length (edges (with_line g l)) ≡ length (edges g ++ line_edges g.lines l) = ap length (edges_push g l) in
     let sum : length (edges g ++ line_edges g.lines l) ≡ length (edges g) + length (line_edges g.lines l) = length-append (edges g) (line_edges g.lines l) in omega arith) in
-    or_eight (nat_lt 1048576 (length (head g))) (nat_lt 1048576 (length (head (with_line g l)))) (nat_lt MAX_INSTS (length (filter is_inst g.decls))) (nat_lt MAX_COLUMNS (length (columns g))) (nat_lt MAX_CELLS (cell_count g)) (nat_lt MAX_LOCKS (length (locks g))) (nat_lt MAX_BARRIERS (length (barriers g)))
-    (nat_lt 8192 (length g.lines)) (nat_lt 8192 (length (g.lines ++ l ∷ []))) (nat_lt 65536 (length (edges g))) (nat_lt 65536 (length (edges (with_line g l))))
-    (lt_more 1048576 (length (head g)) (length (head (with_line g l))) text) (lt_more 8192 (length g.lines) (length (g.lines ++ l ∷ [])) count) (lt_more 65536 (length (edges g)) (length (edges (with_line g l))) more) h
+    or_nine (nat_lt (limits g.format).text (length (head g))) (nat_lt (limits g.format).text (length (head (with_line g l)))) (has_many_spaces g) (has_many_spaces (with_line g l))
+    (nat_lt (limits g.format).insts (length (filter is_inst g.decls))) (nat_lt (limits g.format).columns (length (columns g))) (nat_lt (limits g.format).cells (cell_count g)) (nat_lt (limits g.format).locks (length (locks g))) (nat_lt (limits g.format).barriers (length (barriers g)))
+    (nat_lt (limits g.format).lines (length g.lines)) (nat_lt (limits g.format).lines (length (g.lines ++ l ∷ []))) (nat_lt (limits g.format).edges (length (edges g))) (nat_lt (limits g.format).edges (length (edges (with_line g l))))
+    (lt_more (limits g.format).text (length (head g)) (length (head (with_line g l))) text) (spaces_more g (with_line g l) refl text)
+    (lt_more (limits g.format).lines (length g.lines) (length (g.lines ++ l ∷ [])) count) (lt_more (limits g.format).edges (length (edges g)) (length (edges (with_line g l))) more) h
 
 pub beyond_more : (g : GraphValue) (ls : List Line) → is_beyond g ≡ true → is_beyond (with_lines g ls) ≡ true
 beyond_more g [] h = subst (λ xs. is_beyond (lined g.format g.decls xs) ≡ true) (sym (append-nil g.lines)) h
 beyond_more g (l ∷ ls) h = subst (λ xs. is_beyond (lined g.format g.decls xs) ≡ true) (append_assoc g.lines (l ∷ []) ls) (beyond_more (with_line g l) ls (beyond_line g l h))
 
 -- too many lines are beyond
-pub past_beyond : (f : GraphValue) (commute : Bool) (m : Made) → IsPast m → is_beyond (graph_of f commute m) ≡ true
-past_beyond f commute m h = or_seventh (nat_lt 1048576 (length (head (graph_of f commute m)))) (nat_lt MAX_INSTS (length (filter is_inst (f.decls ++ reservations f commute)))) (nat_lt MAX_COLUMNS (length (columns (graph_of f commute m)))) (nat_lt MAX_CELLS (cell_count (graph_of f commute m))) (nat_lt MAX_LOCKS (length (locks (graph_of f commute m)))) (nat_lt MAX_BARRIERS (length (barriers (graph_of f commute m)))) (nat_lt 8192 (length m.lines)) (nat_lt 65536 (length (edges (graph_of f commute m)))) (lt-ltb 8192 (length m.lines) h)
+pub past_beyond : (f : GraphValue) (commute : Bool) (m : Made) → m.format ≡ f.format → IsPast m → is_beyond (graph_of f commute m) ≡ true
+past_beyond f commute m same h =
+    let g : GraphValue = graph_of f commute m in
+    or_eighth (nat_lt (limits g.format).text (length (head g))) (has_many_spaces g) (nat_lt (limits g.format).insts (length (filter is_inst g.decls))) (nat_lt (limits g.format).columns (length (columns g))) (nat_lt (limits g.format).cells (cell_count g))
+    (nat_lt (limits g.format).locks (length (locks g))) (nat_lt (limits g.format).barriers (length (barriers g))) (nat_lt (limits g.format).lines (length m.lines)) (nat_lt (limits g.format).edges (length (edges g)))
+    (lt-ltb (limits f.format).lines (length m.lines) (subst (λ fm. (limits fm).lines < length m.lines) same h))
 
 -- no name of the flow is one of the numbers from its first number on
-fresh_by : (f : GraphValue) (w k : ℕ) → 5 ≤ w → w < 18 → list_any (takes_width (w + 1)) (names f) ≡ false → k < 65536 → is_used f (new_name (10 ^ w + k)) ≡ false
+fresh_by : (f : GraphValue) (w k : ℕ) → 5 ≤ w → w < 18 → list_any (takes_width (w + 1)) (names f) ≡ false → k < 131072 → is_used f (new_name (10 ^ w + k)) ≡ false
 fresh_by f w k low high none h =
     let base : 10 ^ 5 ≤ 10 ^ w = pow-le-pow_right (lit< tt) low in
     let top : 10 ^ w ≤ 10 ^ 17 = pow-le-pow_right (lit< tt) (let s : w ≤ 17 = omega arith in s) in
@@ -461,7 +491,7 @@ fresh_by f w k low high none h =
     let same : 10 ^ (w + 1) ≡ 10 ^ suc w = ap (λ z. 10 ^ z) (let e : w + 1 ≡ suc w = omega arith in e) in
     unused f w (10 ^ w + k) none (omega arith) (omega arith) (omega arith)
 
-pub fresh_from : (f : GraphValue) (k : ℕ) → k < 65536 → (o : Option ℕ) → find (is_free f) (range_with_len 6 13) ≡ o → is_some (option_map (λ w. 10 ^ (w - 1)) o) ≡ true → is_used f (new_name (option_map_or (λ n. n) (option_map (λ w. 10 ^ (w - 1)) o) 0 + k)) ≡ false
+pub fresh_from : (f : GraphValue) (k : ℕ) → k < 131072 → (o : Option ℕ) → find (is_free f) (range_with_len 6 13) ≡ o → is_some (option_map (λ w. 10 ^ (w - 1)) o) ≡ true → is_used f (new_name (option_map_or (λ n. n) (option_map (λ w. 10 ^ (w - 1)) o) 0 + k)) ≡ false
 fresh_from f k h None is some = absurd (true≢false (sym some))
 fresh_from f k h (Some w) is some =
     let r = find_is (is_free f) (range_with_len 6 13) w is in

@@ -9,16 +9,16 @@ use Rattle.graph_terms.specs.declared.decl.ColumnInfo.{ColumnInfo}
 use Rattle.graph_terms.specs.declared.decl.Decl.{Decl}
 use Rattle.graph_terms.specs.declared.decl.Decl.TheVariants.{Lock}
 use Rattle.graph_terms.specs.declared.format.Format.{Format}
-use Rattle.graph_terms.specs.declared.limits.TheConstants.{MAX_TEXT, MAX_INSTS, MAX_COLUMNS, MAX_CELLS, MAX_LOCKS, MAX_BARRIERS}
+use Rattle.graph_terms.specs.Limits.{limits}
 use Rattle.graph_terms.specs.declared.why.Why.{Why}
 use Rattle.graph_terms.specs.declared.why.Why.TheVariants as why
 use Rattle.graph_terms.specs.Graph.{GraphValue, lock_of, barrier_of, columns, locks, barriers, named_spaces}
-use Rattle.graph_terms.specs.Fits.{is_used, is_inst, cell_count, with_decl, is_beyond, decl_fault}
+use Rattle.graph_terms.specs.Fits.{is_used, is_inst, cell_count, with_decl, has_many_spaces, is_beyond, decl_fault}
 use Rattle.graph_terms.specs.Spelling.{head, spelled, decl_words}
 use Rattle.graph_terms.proofs.Public.{head_with_decl}
 use Rattle.task_flow.specs.Fitting.{lined}
 use Rattle.task_flow.specs.Construction.{new_name, locks_from}
-use Rattle.task_flow.proofs.Fitting.{or_more, lt_more}
+use Rattle.task_flow.proofs.Fitting.{or_more, lt_more, spaces_more}
 use Rattle.task_flow.proofs.Reservations.{locks_length, lock_at, spaces_stay, columns_stay}
 use Rattle.basics.proofs.ListParts.{take_more, take_whole}
 
@@ -45,13 +45,14 @@ beyond_lock fm ds name h =
     let count : length (locks g) ≤ length (locks w) = (
     let is : length (locks w) ≡ length (filter_map lock_of ds ++ name ∷ []) = ap length (filter_map-append lock_of ds (Lock name ∷ [])) in
     let sum : length (filter_map lock_of ds ++ name ∷ []) ≡ length (filter_map lock_of ds) + 1 = length-append (filter_map lock_of ds) (name ∷ []) in omega arith) in
-    or_more (nat_lt MAX_TEXT (length (head g))) (nat_lt MAX_TEXT (length (head w))) _ _ (lt_more MAX_TEXT (length (head g)) (length (head w)) text)
-    (or_more (nat_lt MAX_INSTS (length (filter is_inst ds))) (nat_lt MAX_INSTS (length (filter is_inst (ds ++ Lock name ∷ [])))) _ _ (same_more _ _ (ap (λ xs. nat_lt MAX_INSTS (length xs)) (sym insts)))
-    (or_more (nat_lt MAX_COLUMNS (length (columns g))) (nat_lt MAX_COLUMNS (length (columns w))) _ _ (same_more _ _ (ap (λ xs. nat_lt MAX_COLUMNS (length xs)) (sym cols)))
-    (or_more (nat_lt MAX_CELLS (cell_count g)) (nat_lt MAX_CELLS (cell_count w)) _ _ (same_more _ _ (ap (λ k. nat_lt MAX_CELLS k) (sym cells)))
-    (or_more (nat_lt MAX_LOCKS (length (locks g))) (nat_lt MAX_LOCKS (length (locks w))) _ _ (lt_more MAX_LOCKS (length (locks g)) (length (locks w)) count)
-    (or_more (nat_lt MAX_BARRIERS (length (barriers g))) (nat_lt MAX_BARRIERS (length (barriers w))) _ _ (same_more _ _ (ap (λ xs. nat_lt MAX_BARRIERS (length xs)) (sym walls)))
-    (λ x. x)))))) h
+    or_more (nat_lt (limits fm).text (length (head g))) (nat_lt (limits fm).text (length (head w))) _ _ (lt_more (limits fm).text (length (head g)) (length (head w)) text)
+    (or_more (has_many_spaces g) (has_many_spaces w) _ _ (spaces_more g w spaces text)
+    (or_more (nat_lt (limits fm).insts (length (filter is_inst ds))) (nat_lt (limits fm).insts (length (filter is_inst (ds ++ Lock name ∷ [])))) _ _ (same_more _ _ (ap (λ xs. nat_lt (limits fm).insts (length xs)) (sym insts)))
+    (or_more (nat_lt (limits fm).columns (length (columns g))) (nat_lt (limits fm).columns (length (columns w))) _ _ (same_more _ _ (ap (λ xs. nat_lt (limits fm).columns (length xs)) (sym cols)))
+    (or_more (nat_lt (limits fm).cells (cell_count g)) (nat_lt (limits fm).cells (cell_count w)) _ _ (same_more _ _ (ap (λ k. nat_lt (limits fm).cells k) (sym cells)))
+    (or_more (nat_lt (limits fm).locks (length (locks g))) (nat_lt (limits fm).locks (length (locks w))) _ _ (lt_more (limits fm).locks (length (locks g)) (length (locks w)) count)
+    (or_more (nat_lt (limits fm).barriers (length (barriers g))) (nat_lt (limits fm).barriers (length (barriers w))) _ _ (same_more _ _ (ap (λ xs. nat_lt (limits fm).barriers (length xs)) (sym walls)))
+    (λ x. x))))))) h
 
 beyond_locks : (fm : Format) (n : ℕ) (cs : List ℕ) (ds : List Decl) → is_beyond (lined fm ds []) ≡ true → is_beyond (lined fm (ds ++ locks_from n cs) []) ≡ true
 beyond_locks fm n [] ds h = subst (λ xs. is_beyond (lined fm xs []) ≡ true) (sym (append-nil ds)) h

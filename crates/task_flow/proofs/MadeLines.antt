@@ -11,15 +11,15 @@ use Rattle.graph_terms.specs.Graph.{GraphValue}
 use Rattle.graph_terms.specs.Access.{accesses}
 use Rattle.flow_order.specs.Flow.{IsFlow}
 use Rattle.flow_order.specs.Meaning.{accesses_tie}
-use Rattle.task_flow.specs.Construction.{Made, is_contended, lock_for, lock_of, place_in, wait_for, with_flow_line, in_section, with_line_by, line_in, made_after}
+use Rattle.task_flow.specs.Construction.{Made, is_contended, lock_for, lock_of, place_in, most_on, wait_for, with_flow_line, in_section, with_line_by, line_in, made_after}
 use Rattle.flow_order.specs.SourceParts.{has, is_large, down_from, tied_by, least, parts_of, sources_after}
 use Rattle.flow_order.proofs.Lists.{falls_down, falls_filter, falls_least, least_within, down_below}
 use Rattle.basics.proofs.ListParts.{got_left, got_end, at_left, at_end, got_cases}
 use Rattle.flow_order.proofs.SourceFacts.{sources_of}
-use Rattle.task_flow.proofs.Standing.{Leaf, Waits, IsOwn, IsSection, Each, OwnAt, Standing, Kept, new_line, flow_line, dead, leaves_same, flat_leaf, IsPart, place_below, wait_for_is, waits_same, each_stays, own_at_stays, merged_stays, held_stays}
+use Rattle.task_flow.proofs.Standing.{Leaf, Waits, IsOwn, IsSection, Each, OwnAt, Standing, Kept, one_on, new_line, flow_line, dead, leaves_same, flat_leaf, IsPart, place_below, wait_for_is, waits_same, each_stays, own_at_stays, merged_stays, held_stays}
 
 -- the next line of the flow, at the end
-module _ (f : GraphValue) (commute : Bool) (flow : IsFlow f) (n : ℕ) (next : n < length f.lines) (m : Made) (on : List ℕ) (labels : List (List ℕ)) (st : Standing f commute n m labels) (w : Waits labels (length m.lines) on (λ x. Contains (sources_of f commute n) x)) where
+module _ (f : GraphValue) (commute : Bool) (flow : IsFlow f) (n : ℕ) (next : n < length f.lines) (m : Made) (on : List ℕ) (labels : List (List ℕ)) (st : Standing f commute n m labels) (w : Waits labels (length m.lines) on (λ x. Contains (sources_of f commute n) x)) (few : length on ≤ most_on f.format) where
   below_end : (i : ℕ) → i < n → place_in m i < length m.lines
   below_end i h = place_below f commute flow n (omega arith) m labels st i h
 
@@ -41,8 +41,8 @@ module _ (f : GraphValue) (commute : Bool) (flow : IsFlow f) (n : ℕ) (next : n
       | inr above ↦ subst (OwnAt f made labels') (let e : n ≡ i = omega arith in e) (l, ap (slice_get made.lines) new_place ∙ there, name, verb, ap (λ z. slice_index_or labels' z []) new_place ∙ label)
     ]
 
-    new_own : Waits labels' at l.on (λ x. Contains (sources_of f commute n) x) → IsOwn f commute (suc n) made labels' at l
-    new_own waits = record { line = n; below = omega arith; place = new_place; name = name; verb = verb; label = label; waits = waits }
+    new_own : Waits labels' at l.on (λ x. Contains (sources_of f commute n) x) → length l.on ≤ most_on f.format → IsOwn f commute (suc n) made labels' at l
+    new_own waits few_on = record { line = n; below = omega arith; place = new_place; name = name; verb = verb; label = label; waits = waits; few = few_on }
 
   -- by itself
   module _ (free : is_contended f commute n ≡ false) where
@@ -61,6 +61,7 @@ module _ (f : GraphValue) (commute : Bool) (flow : IsFlow f) (n : ℕ) (next : n
       marks = λ k h. (let l : length labels ≡ length m.lines = st.labelled in at_left labels (n ∷ []) [] k (omega arith));
       places = λ i h. (let l : length m.places ≡ n = st.places in at_left m.places (length m.lines) 0 i (omega arith));
       first = refl;
+      format = refl;
       merges = λ x c. c;
     }
 
@@ -75,9 +76,10 @@ module _ (f : GraphValue) (commute : Bool) (flow : IsFlow f) (n : ℕ) (next : n
         let count : length (m.lines ++ new ∷ []) ≡ length m.lines + 1 = length-append m.lines (new ∷ []) in
         let marks : length labels_more ≡ length labels + 1 = length-append labels ((n ∷ []) ∷ []) in
         let more : length (m.places ++ length m.lines ∷ []) ≡ length m.places + 1 = length-append m.places (length m.lines ∷ []) in
-        let own_new : IsOwn f commute (suc n) made labels_more (length m.lines) new = new_own made labels_more line_kept (length m.lines) (omega arith) new_place new (got_end m.lines new) refl refl new_label (waits_same labels labels_more (length m.lines) (length m.lines) on _ (omega arith) line_kept.marks w) in
+        let own_new : IsOwn f commute (suc n) made labels_more (length m.lines) new = new_own made labels_more line_kept (length m.lines) (omega arith) new_place new (got_end m.lines new) refl refl new_label (waits_same labels labels_more (length m.lines) (length m.lines) on _ (omega arith) line_kept.marks w) few in
         record {
           guards = st.guards;
+          format = st.format;
           labelled = marks ∙ (ap (λ z. z + 1) st.labelled ∙ sym count);
           places = (let p : length m.places ≡ n = st.places in omega arith);
           tally = (let t : length m.lines ≡ n + length m.merges + st.guards = st.tally in omega arith);
@@ -188,6 +190,7 @@ module _ (f : GraphValue) (commute : Bool) (flow : IsFlow f) (n : ℕ) (next : n
       marks = λ k h. (let l : length labels ≡ length m.lines = st.labelled in mark_at1 k (omega arith) ∙ at_left labels label [] k (omega arith));
       places = λ i h. (let l : length m.places ≡ n = st.places in at_left m.places (length lines1) 0 i (omega arith));
       first = refl;
+      format = refl;
       merges = λ x c. c;
     }
 
@@ -225,7 +228,6 @@ module _ (f : GraphValue) (commute : Bool) (flow : IsFlow f) (n : ℕ) (next : n
         record {
           below = w.below;
           once = w.once;
-          few = w.few;
           leaves = λ x. (
             λ c. (s x).0 ((flat_leaf labels on x).0 (subst (λ z. Contains z x) mark_acquire c)),
             λ r. subst (λ z. Contains z x) (sym mark_acquire) ((flat_leaf labels on x).1 ((s x).1 r)),
@@ -236,7 +238,6 @@ module _ (f : GraphValue) (commute : Bool) (flow : IsFlow f) (n : ℕ) (next : n
     sum_waits = record {
       below = λ e c. elim (contains_cases (length m.lines) [] e c) [ inl same ↦ (let z : length m.lines ≡ e = same in omega arith) | inr none ↦ absurd (contains_none e none) ];
       once = refl;
-      few = (let z : 1 ≤ 1 = omega arith in z);
       leaves = λ x. (
         λ c. (length m.lines, contains_here (length m.lines) [], subst (λ z. Contains z x) (sym mark_acquire) ((flat_leaf labels on x).1 ((w.leaves x).0 c))),
         λ r. elim (contains_cases (length m.lines) [] r.0 r.1) [
@@ -258,6 +259,7 @@ module _ (f : GraphValue) (commute : Bool) (flow : IsFlow f) (n : ℕ) (next : n
       release = at_release;
       place = held_place;
       waits = acquire_waits;
+      few = few;
       merge_label = mark_merge;
       release_label = mark_release;
     }
@@ -269,7 +271,7 @@ module _ (f : GraphValue) (commute : Bool) (flow : IsFlow f) (n : ℕ) (next : n
         | inr now ↦ inr (inr ((let z : 0 < st.guards + 3 = omega arith in z), length m.lines, new_section, inr (inl (now.0 ∙ count2))))
         | inl old2 ↦ elim (got_cases lines1 sum k l old2.1) [
           | inr now ↦ inl (subst (λ z. IsOwn f commute (suc n) held marks4 z l) (sym (now.0 ∙ count1)) (subst (λ z. IsOwn f commute (suc n) held marks4 (length m.lines + 1) z) now.1
-              (new_own held marks4 held_kept (length m.lines + 1) (omega arith) held_place sum at_sum refl refl mark_sum sum_waits)))
+              (new_own held marks4 held_kept (length m.lines + 1) (omega arith) held_place sum at_sum refl refl mark_sum sum_waits (one_on f.format))))
           | inl old1 ↦ elim (got_cases m.lines acquire k l old1.1) [
             | inr now ↦ inr (inr ((let z : 0 < st.guards + 3 = omega arith in z), length m.lines, new_section, inl now.0))
             | inl old ↦ each_stays f commute n (suc n) (omega arith) m held labels marks4 held_kept st.guards (st.guards + 3) (omega arith) k l old.0 (st.each k l old.1)
@@ -286,6 +288,7 @@ module _ (f : GraphValue) (commute : Bool) (flow : IsFlow f) (n : ℕ) (next : n
         let c4 : length lines4 ≡ length m.lines + 4 = count4 in
         record {
           guards = st.guards + 3;
+          format = st.format;
           labelled = (let z : length marks4 ≡ length lines4 = omega arith in z);
           places = (let p : length m.places ≡ n = st.places in omega arith);
           tally = (let t : length m.lines ≡ n + length m.merges + st.guards = st.tally in let z : length lines4 ≡ suc n + length m.merges + (st.guards + 3) = omega arith in z);
@@ -314,18 +317,18 @@ module _ (f : GraphValue) (commute : Bool) (flow : IsFlow f) (j : ℕ) (within :
   }
 
   pub small_part : IsPart f commute flow j within (parts_of f commute table j).small
-  small_part = least_part (flat_map (λ p. p) (filter is_large parts)) (λ i. list_any (λ p. has p i) (filter (λ p. not (is_large p)) parts))
+  small_part = least_part (flat_map (λ p. p) (filter (is_large f.format) parts)) (λ i. list_any (λ p. has p i) (filter (λ p. not (is_large f.format p)) parts))
 
   pub large_part : (q : List ℕ) → Contains (parts_of f commute table j).large q → IsPart f commute flow j within q
   large_part q c =
-      let b = map_contains (λ b. least table [] (tied_by f commute j b)) (accesses f j) q (filter_contains is_large parts q c).0 in
+      let b = map_contains (λ b. least table [] (tied_by f commute j b)) (accesses f j) q (filter_contains (is_large f.format) parts q c).0 in
       subst (IsPart f commute flow j within) b.2 (least_part [] (λ i. list_any (λ a. accesses_tie f commute a b.0) (accesses f i)))
 
 -- with the next line
-next_stands : (f : GraphValue) (commute : Bool) (flow : IsFlow f) (n : ℕ) (next : n < length f.lines) (r : Made × List ℕ) (labels : List (List ℕ)) → Standing f commute n r.0 labels → Waits labels (length r.0.lines) r.1 (λ x. Contains (sources_of f commute n) x) → (b : Bool) → is_contended f commute n ≡ b →
+next_stands : (f : GraphValue) (commute : Bool) (flow : IsFlow f) (n : ℕ) (next : n < length f.lines) (r : Made × List ℕ) (labels : List (List ℕ)) → Standing f commute n r.0 labels → Waits labels (length r.0.lines) r.1 (λ x. Contains (sources_of f commute n) x) → length r.1 ≤ most_on f.format → (b : Bool) → is_contended f commute n ≡ b →
     (labels' : List (List ℕ)) × Standing f commute (suc n) (with_line_by (cond b (Some (lock_for f commute n)) None) (line_in f n) r) labels'
-next_stands f commute flow n next r labels st w false e = (labels ++ (n ∷ []) ∷ [], flow_line_stands f commute flow n next r.0 r.1 labels st w e)
-next_stands f commute flow n next r labels st w true e = (marks4 f commute flow n next r.0 r.1 labels st w e, section_stands f commute flow n next r.0 r.1 labels st w e)
+next_stands f commute flow n next r labels st w few false e = (labels ++ (n ∷ []) ∷ [], flow_line_stands f commute flow n next r.0 r.1 labels st w few e)
+next_stands f commute flow n next r labels st w few true e = (marks4 f commute flow n next r.0 r.1 labels st w few e, section_stands f commute flow n next r.0 r.1 labels st w few e)
 
 first_by : (o : Option ℕ) (l : Line) (r : Made × List ℕ) → (with_line_by o l r).first ≡ r.0.first
 first_by None l r = refl
@@ -337,6 +340,7 @@ made_stands f commute flow first zero h = (
   [],
   record {
     guards = 0;
+    format = refl;
     labelled = refl;
     places = refl;
     tally = refl;
@@ -353,7 +357,7 @@ made_stands f commute flow first (suc n) h =
     let p = parts_of f commute (sources_after f commute n) n in
     let r = wait_for p (made_after f commute first n) in
     let w = wait_for_is f commute flow n (omega arith) p (made_after f commute first n) before.0 before.1 (small_part f commute flow n (omega arith)) (large_part f commute flow n (omega arith)) in
-    let s = next_stands f commute flow n (omega arith) r (w.0).labels' (w.0).stands w.1 (is_contended f commute n) refl in
+    let s = next_stands f commute flow n (omega arith) r (w.0).labels' (w.0).stands w.1 w.2 (is_contended f commute n) refl in
     (s.0, s.1, first_by (lock_of f commute n) (line_in f n) r ∙ ((w.0).first ∙ before.2))
 
 -- it grows line by line

@@ -9,7 +9,7 @@ use Rattle.std.proofs.lemmas.List.Elements.{filter_map-append}
 use Rattle.basics.proofs.ListFacts.{contains_cases, contains_none}
 use Rattle.graph_terms.specs.declared.decl.Decl.{Decl}
 use Rattle.graph_terms.specs.declared.decl.Decl.TheVariants.{Lock}
-use Rattle.graph_terms.specs.declared.limits.TheConstants.{MAX_LINES}
+use Rattle.graph_terms.specs.Limits.{limits}
 use Rattle.graph_terms.specs.Graph.{GraphValue, space_of, columns_of, lock_of, locks}
 use Rattle.flow_order.specs.Written.{IsLock}
 use Rattle.flow_order.specs.SourceParts.{has, with_event}
@@ -20,22 +20,22 @@ pub locks_are : (n : ℕ) (cs : List ℕ) → AllByRecursion IsLock (locks_from 
 locks_are n [] = tt
 locks_are n (c ∷ cs) = ((new_name n, refl), locks_are (suc n) cs)
 
-are_by : (o : Option ℕ) (cs : List ℕ) → AllByRecursion IsLock (option_map_or (λ first. locks_from (first + MAX_LINES) cs) o [])
-are_by None cs = tt
-are_by (Some first) cs = locks_are (first + MAX_LINES) cs
+are_by : (lines : ℕ) (o : Option ℕ) (cs : List ℕ) → AllByRecursion IsLock (option_map_or (λ first. locks_from (first + lines) cs) o [])
+are_by lines None cs = tt
+are_by lines (Some first) cs = locks_are (first + lines) cs
 
 pub reservations_are : (f : GraphValue) (commute : Bool) → AllByRecursion IsLock (reservations f commute)
 unfolding reservations
-reservations_are f commute = are_by (first_number f) (needed f commute (length f.lines))
+reservations_are f commute = are_by (limits f.format).lines (first_number f) (needed f commute (length f.lines))
 
 -- where there are names
-pub reservations_some : (f : GraphValue) (commute : Bool) (first : ℕ) → Some first ≡ first_number f → reservations f commute ≡ locks_from (first + MAX_LINES) (needed f commute (length f.lines))
+pub reservations_some : (f : GraphValue) (commute : Bool) (first : ℕ) → Some first ≡ first_number f → reservations f commute ≡ locks_from (first + (limits f.format).lines) (needed f commute (length f.lines))
 unfolding reservations
-reservations_some f commute first e = ap (λ (o : Option ℕ). option_map_or (λ first. locks_from (first + MAX_LINES) (needed f commute (length f.lines))) o []) (sym e)
+reservations_some f commute first e = ap (λ (o : Option ℕ). option_map_or (λ first. locks_from (first + (limits f.format).lines) (needed f commute (length f.lines))) o []) (sym e)
 
 pub reservations_none : (f : GraphValue) (commute : Bool) → None ≡ first_number f → reservations f commute ≡ []
 unfolding reservations
-reservations_none f commute e = ap (λ (o : Option ℕ). option_map_or (λ first. locks_from (first + MAX_LINES) (needed f commute (length f.lines))) o []) (sym e)
+reservations_none f commute e = ap (λ (o : Option ℕ). option_map_or (λ first. locks_from (first + (limits f.format).lines) (needed f commute (length f.lines))) o []) (sym e)
 
 -- a reservation and its name
 pub lock_named : (n : ℕ) (cs : List ℕ) (d : Decl) → Contains (locks_from n cs) d → (k : ℕ) × (k < length cs) × (d ≡ Lock (new_name (n + k)))
@@ -111,8 +111,8 @@ needed_grows f commute i (suc n) h = elim (cases_order i (suc n)) [
 pub many_later : (f : GraphValue) (commute : Bool) (i n : ℕ) → i ≤ n → wants_many f commute i ≡ true → wants_many f commute n ≡ true
 many_later f commute i n h many =
     let a : length (needed f commute i) ≤ length (needed f commute n) = needed_grows f commute i n h in
-    let b : 64 < length (locks f) + length (needed f commute i) = ltb-true 64 (length (locks f) + length (needed f commute i)) many in
-    lt-ltb 64 (length (locks f) + length (needed f commute n)) (omega arith)
+    let b : (limits f.format).locks < length (locks f) + length (needed f commute i) = ltb-true (limits f.format).locks (length (locks f) + length (needed f commute i)) many in
+    lt-ltb (limits f.format).locks (length (locks f) + length (needed f commute n)) (omega arith)
 
 pub few_before : (f : GraphValue) (commute : Bool) (i n : ℕ) → i ≤ n → wants_many f commute n ≡ false → wants_many f commute i ≡ false
 few_before f commute i n h few = false_from_ne_true (wants_many f commute i) (λ many. true≢false (sym (many_later f commute i n h many) ∙ few))

@@ -1,24 +1,34 @@
 -- What stands while the graph of a flow is made: each line is one of the flow, a merge, or in a section beside a line of the flow; and each has leaves, the lines of the flow that lead to it through others alone.
-use Rattle.std.proofs.Common.{◌≡◌, ℕ, zero, suc, ◌+◌, ◌<◌, ◌≤◌, Bool, true, false, ◌⊎◌, inl, inr, List, [], ◌∷◌, ◌++◌, length, map, take, drop, refl, sym, ◌∙◌, ap, subst, length-append, arith}
-use Rattle.std.specs.Prelude.{◌↔◌, Contains, Option, Some, None, option_to_list, find, flat_map, nat_eq, slice_get, slice_index_or, bytes_eq}
+use Rattle.std.proofs.Common.{◌≡◌, ℕ, zero, suc, ◌+◌, ◌-◌, ◌<◌, ◌≤◌, Bool, true, false, ◌⊎◌, inl, inr, List, [], ◌∷◌, ◌++◌, length, map, take, drop, refl, sym, ◌∙◌, ap, subst, length-append, length-drop, arith, lit≤}
+use Rattle.std.specs.Prelude.{◌↔◌, Contains, Option, Some, None, option_to_list, find, flat_map, nat_eq, nat_le, slice_get, slice_index_or, bytes_eq}
 use Rattle.std.specs.Option.{option_map_or}
-use Rattle.std.proofs.lemmas.Bool.{true≢false}
+use Rattle.std.proofs.lemmas.Bool.{true≢false, leb-true}
 use Rattle.std.proofs.lemmas.List.{length-map}
 use Rattle.std.proofs.lemmas.List.Elements.{Contains-append_cases, Contains-append_left, Contains-append_right}
 use Rattle.std.proofs.lemmas.Option.{same_Some, slice_get_within, slice_get-get_or}
 use Rattle.std.proofs.lemmas.Slice.Eq.{bytes_eq-Decides}
 use Rattle.basics.proofs.ListFacts.{contains_cases, contains_none, contains_here, contains_there, contains_map, map_contains, find_is}
+use Rattle.graph_terms.specs.declared.format.Format.{Format}
+use Rattle.graph_terms.specs.declared.format.Format.TheVariants.{One, Two, Three}
+use Rattle.graph_terms.specs.Limits.{limits}
 use Rattle.graph_terms.specs.declared.verb.Line.{Line}
 use Rattle.graph_terms.specs.declared.verb.Verb.{Verb}
 use Rattle.graph_terms.specs.declared.verb.Verb.TheVariants.{Merge, MergeIgnore, Acquire, Release}
 use Rattle.graph_terms.specs.Graph.{GraphValue}
 use Rattle.graph_terms.specs.Fits.{repeats}
 use Rattle.flow_order.specs.Flow.{IsFlow, uses_columns}
-use Rattle.task_flow.specs.Construction.{Made, is_contended, lock_for, new_name, merge_line, with_merge, merge_by, merge_for, event_for, place_in, events_for, wait_for, no_line, line_in}
+use Rattle.task_flow.specs.Construction.{Made, is_contended, lock_for, new_name, merge_line, with_merge, merge_by, merge_for, most_merged, event_for, place_in, events_for, most_on, on_by, wait_for, no_line, line_in}
 use Rattle.flow_order.specs.SourceParts.{Parts, all_of, with_event}
 use Rattle.flow_order.proofs.Lists.{Falls, falls_differ, take_once, drop_once, with_event_once, with_event_cases, old_in, new_in, length_with}
 use Rattle.basics.proofs.ListParts.{take_within, drop_within, split_cases, got_left, got_end, at_left, at_end, got_cases}
 use Rattle.flow_order.proofs.SourceFacts.{sources_of}
+use Rattle.task_flow.proofs.Growth.{some_merged}
+
+-- a line may wait for an event in each format
+pub one_on : (fm : Format) → 1 ≤ most_on fm
+one_on One = lit≤ tt
+one_on Two = lit≤ tt
+one_on Three = lit≤ tt
 
 -- a line of the flow leads to line e
 abbrev pub Leaf : List (List ℕ) → ℕ → ℕ → Type 0
@@ -27,11 +37,10 @@ Leaf labels e x = Contains (slice_index_or labels e []) x
 abbrev pub LeafOf : List (List ℕ) → List ℕ → ℕ → Type 0
 LeafOf labels es x = (e : ℕ) × Contains es e × Leaf labels e x
 
--- events below line k, one at most, whose leaves are those of a rule
+-- events below line k, whose leaves are those of a rule
 pub record Waits (labels : List (List ℕ)) (k : ℕ) (on : List ℕ) (P : ℕ → Type 0) : Type 0 where
   pub below : (e : ℕ) → Contains on e → e < k
   pub once : repeats nat_eq on ≡ false
-  pub few : length on ≤ 1
   pub leaves : (x : ℕ) → P x ↔ LeafOf labels on x
 
 abbrev is_merge : Verb → Bool
@@ -47,6 +56,7 @@ pub record IsOwn (f : GraphValue) (commute : Bool) (n : ℕ) (m : Made) (labels 
   pub verb : l.verb ≡ (line_in f line).verb
   pub label : slice_index_or labels k [] ≡ line ∷ []
   pub waits : Waits labels k l.on (λ x. Contains (sources_of f commute line) x)
+  pub few : length l.on ≤ most_on f.format
 
 -- line k is a merge
 pub record IsMerge (m : Made) (labels : List (List ℕ)) (k : ℕ) (l : Line) : Type 0 where
@@ -55,7 +65,7 @@ pub record IsMerge (m : Made) (labels : List (List ℕ)) (k : ℕ) (l : Line) : 
   pub on : l.on ≡ []
   pub name : l.name ≡ new_name (m.first + k)
   pub some : 0 < length events
-  pub few : length events ≤ 64
+  pub few : length events ≤ most_merged m
   pub once : repeats nat_eq events ≡ false
   pub below : (e : ℕ) → Contains events e → e < k
   pub leaves : (x : ℕ) → Leaf labels k x ↔ LeafOf labels events x
@@ -84,6 +94,7 @@ pub record IsSection (f : GraphValue) (commute : Bool) (n : ℕ) (m : Made) (lab
   pub release : slice_get m.lines (q + 3) ≡ Some (new_line (m.first + (q + 3)) (Release q) ((q + 2) ∷ []))
   pub place : place_in m line ≡ q + 1
   pub waits : Waits labels q on (Leaf labels q)
+  pub few : length on ≤ most_on f.format
   pub merge_label : slice_index_or labels (q + 2) [] ≡ dead f line
   pub release_label : slice_index_or labels (q + 3) [] ≡ dead f line
 
@@ -105,6 +116,7 @@ HeldAt f commute n m labels i = (q : ℕ) × (s : IsSection f commute n m labels
 
 pub record Standing (f : GraphValue) (commute : Bool) (n : ℕ) (m : Made) (labels : List (List ℕ)) : Type 0 where
   pub guards : ℕ
+  pub format : m.format ≡ f.format
   pub labelled : length labels ≡ length m.lines
   pub places : length m.places ≡ n
   pub tally : length m.lines ≡ n + length m.merges + guards
@@ -124,7 +136,7 @@ pub record Grown (f : GraphValue) (commute : Bool) (n : ℕ) (m : Made) (labels 
   pub same : (k : ℕ) → k < length m.lines → slice_index_or labels' k [] ≡ slice_index_or labels k []
 
 waits_iff : (labels : List (List ℕ)) (k : ℕ) (on : List ℕ) (P Q : ℕ → Type 0) → ((x : ℕ) → P x ↔ Q x) → Waits labels k on P → Waits labels k on Q
-waits_iff labels k on P Q h w = record { below = w.below; once = w.once; few = w.few; leaves = λ x. (λ q. (w.leaves x).0 ((h x).1 q), λ l. (h x).0 ((w.leaves x).1 l)) }
+waits_iff labels k on P Q h w = record { below = w.below; once = w.once; leaves = λ x. (λ q. (w.leaves x).0 ((h x).1 q), λ l. (h x).0 ((w.leaves x).1 l)) }
 
 -- labels that agree on the events that are named
 pub leaves_same : (labels labels' : List (List ℕ)) (es : List ℕ) → ((e : ℕ) → Contains es e → slice_index_or labels' e [] ≡ slice_index_or labels e []) → (x : ℕ) → LeafOf labels es x ↔ LeafOf labels' es x
@@ -136,7 +148,6 @@ waits_same labels labels' k k' on P b h w =
     record {
       below = λ e c. (let d : e < k = w.below e c in omega arith);
       once = w.once;
-      few = w.few;
       leaves = λ x. (λ p. (s x).0 ((w.leaves x).0 p), λ l. (w.leaves x).1 ((s x).1 l));
     }
 
@@ -175,6 +186,7 @@ pub record Kept (n : ℕ) (m m' : Made) (labels labels' : List (List ℕ)) : Typ
   pub marks : (k : ℕ) → k < length m.lines → slice_index_or labels' k [] ≡ slice_index_or labels k []
   pub places : (i : ℕ) → i < n → place_in m' i ≡ place_in m i
   pub first : m'.first ≡ m.first
+  pub format : m'.format ≡ m.format
   pub merges : (x : List ℕ × ℕ) → Contains m.merges x → Contains m'.merges x
 
 module _ (f : GraphValue) (commute : Bool) (n n' : ℕ) (more : n ≤ n') (m m' : Made) (labels labels' : List (List ℕ)) (kept : Kept n m m' labels labels') where
@@ -187,6 +199,7 @@ module _ (f : GraphValue) (commute : Bool) (n n' : ℕ) (more : n ≤ n') (m m' 
     verb = o.verb;
     label = kept.marks k h ∙ o.label;
     waits = waits_same labels labels' k k l.on _ (omega arith) (λ e c. kept.marks e (omega arith)) o.waits;
+    few = o.few;
   }
 
   merge_stays : (k : ℕ) (l : Line) → k < length m.lines → IsMerge m labels k l → IsMerge m' labels' k l
@@ -198,7 +211,7 @@ module _ (f : GraphValue) (commute : Bool) (n n' : ℕ) (more : n ≤ n') (m m' 
         on = o.on;
         name = o.name ∙ ap (λ z. new_name (z + k)) (sym kept.first);
         some = o.some;
-        few = o.few;
+        few = subst (λ fm. length o.events ≤ (limits fm).events) (sym kept.format) o.few;
         once = o.once;
         below = o.below;
         leaves = λ x. (λ c. (s x).0 ((o.leaves x).0 (subst (λ z. Contains z x) (kept.marks k h) c)), λ r. subst (λ z. Contains z x) (sym (kept.marks k h)) ((o.leaves x).1 ((s x).1 r)));
@@ -214,7 +227,6 @@ module _ (f : GraphValue) (commute : Bool) (n n' : ℕ) (more : n ≤ n') (m m' 
       record {
         below = w.below;
         once = w.once;
-        few = w.few;
         leaves = λ x. (λ c. (s x).0 ((w.leaves x).0 (subst (λ z. Contains z x) (kept.marks q h) c)), λ r. subst (λ z. Contains z x) (sym (kept.marks q h)) ((w.leaves x).1 ((s x).1 r)));
       }
 
@@ -232,6 +244,7 @@ module _ (f : GraphValue) (commute : Bool) (n n' : ℕ) (more : n ≤ n') (m m' 
         release = named_stays (q + 3) (q + 3) _ ((q + 2) ∷ []) s.release;
         place = kept.places s.line s.below ∙ s.place;
         waits = waits_stay q s.on (omega arith) s.waits;
+        few = s.few;
         merge_label = kept.marks (q + 2) (omega arith) ∙ s.merge_label;
         release_label = kept.marks (q + 3) end ∙ s.release_label;
       }
@@ -269,7 +282,7 @@ module _ (f : GraphValue) (commute : Bool) (flow : IsFlow f) (n : ℕ) (within :
       by x there fails = true≢false (sym (ap is_merge is) ∙ (ap (λ (z : Line). is_merge z.verb) (same_Some l x (sym at ∙ there)) ∙ fails))
 
   -- a merge more
-  module _ (m : Made) (labels : List (List ℕ)) (st : Standing f commute n m labels) (es : List ℕ) (some : 0 < length es) (few : length es ≤ 64) (once : repeats nat_eq es ≡ false) (below : (e : ℕ) → Contains es e → e < length m.lines) where
+  module _ (m : Made) (labels : List (List ℕ)) (st : Standing f commute n m labels) (es : List ℕ) (some : 0 < length es) (few : length es ≤ most_merged m) (once : repeats nat_eq es ≡ false) (below : (e : ℕ) → Contains es e → e < length m.lines) where
     abbrev label : List ℕ
     label = flat_map (λ e. slice_index_or labels e []) es
 
@@ -288,6 +301,7 @@ module _ (f : GraphValue) (commute : Bool) (flow : IsFlow f) (n : ℕ) (within :
       marks = kept;
       places = λ i h. refl;
       first = refl;
+      format = refl;
       merges = λ x c. Contains-append_left m.merges ((es, length m.lines) ∷ []) x c;
     }
 
@@ -315,6 +329,7 @@ module _ (f : GraphValue) (commute : Bool) (flow : IsFlow f) (n : ℕ) (within :
         let more : length (m.merges ++ (es, length m.lines) ∷ []) ≡ length m.merges + 1 = length-append m.merges ((es, length m.lines) ∷ []) in
         record {
           guards = st.guards;
+          format = st.format;
           labelled = marks ∙ (ap (λ z. z + 1) st.labelled ∙ sym count);
           places = st.places;
           tally = (let t : length m.lines ≡ n + length m.merges + st.guards = st.tally in omega arith);
@@ -383,41 +398,42 @@ module _ (f : GraphValue) (commute : Bool) (flow : IsFlow f) (n : ℕ) (within :
   length_take (suc k) [] = omega arith
   length_take (suc k) (x ∷ xs) = let l : length (take k xs) ≤ k = length_take k xs in omega arith
 
-  length_drop : (k : ℕ) (xs : List ℕ) → length (drop k xs) ≤ length xs
-  length_drop zero xs = omega arith
-  length_drop (suc k) [] = omega arith
-  length_drop (suc k) (x ∷ xs) = let l : length (drop k xs) ≤ length xs = length_drop k xs in omega arith
+  some_front : (k : ℕ) (e : ℕ) (es : List ℕ) → 0 < k → 0 < length (take k (e ∷ es))
+  some_front zero e es h = absurd (omega arith)
+  some_front (suc k) e es h = omega arith
 
   waits_none : (labels : List (List ℕ)) (k : ℕ) → Waits labels k [] (λ x. LeafOf labels [] x)
-  waits_none labels k = record { below = λ e c. absurd (contains_none e c); once = refl; few = (let z : 0 ≤ 1 = omega arith in z); leaves = λ x. (λ r. r, λ r. r) }
+  waits_none labels k = record { below = λ e c. absurd (contains_none e c); once = refl; leaves = λ x. (λ r. r, λ r. r) }
 
   pub event_for_is : (fuel : ℕ) (es : List ℕ) (m : Made) (labels : List (List ℕ)) → Standing f commute n m labels → length es ≤ fuel → repeats nat_eq es ≡ false → ((e : ℕ) → Contains es e → e < length m.lines) → EventOf m labels es (event_for fuel es m)
   event_for_is zero [] m labels st h once below = (grown_none f commute n m labels st, waits_none labels (length m.lines))
   event_for_is zero (e ∷ es) m labels st h once below = absurd (let g : suc (length es) ≤ 0 = h in omega arith)
   event_for_is (suc fuel) [] m labels st h once below = (grown_none f commute n m labels st, waits_none labels (length m.lines))
-  event_for_is (suc fuel) (e ∷ []) m labels st h once below = (grown_none f commute n m labels st, record { below = below; once = once; few = (let z : 1 ≤ 1 = omega arith in z); leaves = λ x. (λ r. r, λ r. r) })
+  event_for_is (suc fuel) (e ∷ []) m labels st h once below = (grown_none f commute n m labels st, record { below = below; once = once; leaves = λ x. (λ r. r, λ r. r) })
   event_for_is (suc fuel) (e ∷ d ∷ es) m labels st h once below =
       let all : List ℕ = e ∷ d ∷ es in
-      let front : List ℕ = take 64 (e ∷ d ∷ es) in
-      let rest : List ℕ = drop 64 (e ∷ d ∷ es) in
-      let one = merge_for_is m labels st front (let z : 0 < suc (length (take 63 (d ∷ es))) = omega arith in z) (length_take 64 (e ∷ d ∷ es)) (take_once 64 (e ∷ d ∷ es) once) (λ x c. below x (take_within 64 (e ∷ d ∷ es) x c)) in
+      let most : ℕ = most_merged m in
+      let two_merged : 2 ≤ most = some_merged m.format in
+      let front : List ℕ = take (most_merged m) (e ∷ d ∷ es) in
+      let rest : List ℕ = drop (most_merged m) (e ∷ d ∷ es) in
+      let one = merge_for_is m labels st front (some_front most e (d ∷ es) (omega arith)) (length_take (most_merged m) (e ∷ d ∷ es)) (take_once (most_merged m) (e ∷ d ∷ es) once) (λ x c. below x (take_within (most_merged m) (e ∷ d ∷ es) x c)) in
       let g = one.0 in
       let made = merge_for front m in
       let longer : length m.lines ≤ length made.0.lines = g.longer in
-      let shorter : length rest + 2 ≤ length all = (let l : length (drop 62 es) ≤ length es = length_drop 62 es in omega arith) in
+      let shorter : length rest + 2 ≤ length all = (let l : length rest ≡ length all - most = length-drop most (e ∷ d ∷ es) in let s : length all ≡ suc (suc (length es)) = refl in omega arith) in
       let grow : length (with_event rest made.1) ≤ length rest + 1 = length_with rest made.1 in
-      let two = event_for_is fuel (with_event rest made.1) made.0 g.labels' g.stands (let b : length all ≤ suc fuel = h in omega arith) (with_event_once rest made.1 (drop_once 64 (e ∷ d ∷ es) once)) (λ x c. elim (with_event_cases rest made.1 x c) [
-        | inl old ↦ (let b : x < length m.lines = below x (drop_within 64 (e ∷ d ∷ es) x old) in omega arith)
+      let two = event_for_is fuel (with_event rest made.1) made.0 g.labels' g.stands (let b : length all ≤ suc fuel = h in omega arith) (with_event_once rest made.1 (drop_once (most_merged m) (e ∷ d ∷ es) once)) (λ x c. elim (with_event_cases rest made.1 x c) [
+        | inl old ↦ (let b : x < length m.lines = below x (drop_within (most_merged m) (e ∷ d ∷ es) x old) in omega arith)
         | inr new ↦ subst (λ z. z < length made.0.lines) (sym new) one.1
       ]) in
-      let kept : (x : ℕ) → Contains rest x → slice_index_or g.labels' x [] ≡ slice_index_or labels x [] = λ x c. g.same x (below x (drop_within 64 (e ∷ d ∷ es) x c)) in (
+      let kept : (x : ℕ) → Contains rest x → slice_index_or g.labels' x [] ≡ slice_index_or labels x [] = λ x c. g.same x (below x (drop_within (most_merged m) (e ∷ d ∷ es) x c)) in (
         grown_more f commute n m labels made.0 (event_for fuel (with_event rest made.1) made.0).0 g two.0,
         waits_iff (two.0).labels' (length (event_for fuel (with_event rest made.1) made.0).0.lines) (option_to_list (event_for fuel (with_event rest made.1) made.0).1) (λ x. LeafOf g.labels' (with_event rest made.1) x) (λ x. LeafOf labels (e ∷ d ∷ es) x) (λ x. (
           λ r. elim (with_event_cases rest made.1 r.0 r.1) [
-            | inl old ↦ (r.0, drop_within 64 (e ∷ d ∷ es) r.0 old, subst (λ z. Contains z x) (kept r.0 old) r.2)
-            | inr new ↦ (let s = (one.2 x).1 (subst (λ z. Leaf g.labels' z x) new r.2) in (s.0, take_within 64 (e ∷ d ∷ es) s.0 s.1, s.2))
+            | inl old ↦ (r.0, drop_within (most_merged m) (e ∷ d ∷ es) r.0 old, subst (λ z. Contains z x) (kept r.0 old) r.2)
+            | inr new ↦ (let s = (one.2 x).1 (subst (λ z. Leaf g.labels' z x) new r.2) in (s.0, take_within (most_merged m) (e ∷ d ∷ es) s.0 s.1, s.2))
           ],
-          λ r. elim (split_cases 64 (e ∷ d ∷ es) r.0 r.1) [
+          λ r. elim (split_cases (most_merged m) (e ∷ d ∷ es) r.0 r.1) [
             | inl a ↦ (made.1, new_in rest made.1, (one.2 x).0 (r.0, a, r.2))
             | inr b ↦ (r.0, old_in rest made.1 r.0 b, subst (λ z. Contains z x) (sym (kept r.0 b)) r.2)
           ],
@@ -502,22 +518,45 @@ module _ (f : GraphValue) (commute : Bool) (flow : IsFlow f) (n : ℕ) (within :
         ),
       )
 
+  few_option : (o : Option ℕ) → length (option_to_list o) ≤ 1
+  few_option None = omega arith
+  few_option (Some e) = omega arith
+
+  -- events behind `on`, not too many, and what leads to them
+  abbrev pub OnOf : Made → List (List ℕ) → (ℕ → Type 0) → Made × List ℕ → Type 0
+  OnOf m labels P r = (g : Grown f commute n m labels r.0) × Waits g.labels' (length r.0.lines) r.1 P × (length r.1 ≤ most_on f.format)
+
+  on_is : (es : List ℕ) (m : Made) (labels : List (List ℕ)) → Standing f commute n m labels → repeats nat_eq es ≡ false → ((e : ℕ) → Contains es e → e < length m.lines) → (P : ℕ → Type 0) → ((x : ℕ) → LeafOf labels es x ↔ P x) → (b : Bool) → nat_le (length es) (most_on m.format) ≡ b →
+      OnOf m labels P (on_by b es m)
+  on_is es m labels st once below P leaves true few = (
+    grown_none f commute n m labels st,
+    record { below = below; once = once; leaves = λ x. ((leaves x).1, (leaves x).0) },
+    subst (λ fm. length es ≤ most_on fm) st.format (leb-true (length es) (most_on m.format) few),
+  )
+  on_is es m labels st once below P leaves false many =
+      let two = event_for_is (length es) es m labels st (omega arith) once below in (
+        two.0,
+        waits_iff (two.0).labels' _ _ (λ x. LeafOf labels es x) P leaves two.1,
+        (let a : length (option_to_list (event_for (length es) es m).1) ≤ 1 = few_option (event_for (length es) es m).1 in let b : 1 ≤ most_on f.format = one_on f.format in omega arith),
+      )
+
   -- what a line with these sources waits for
   pub wait_for_is : (p : Parts) (m : Made) (labels : List (List ℕ)) → Standing f commute n m labels → IsPart p.small → ((q : List ℕ) → Contains p.large q → IsPart q) →
-      (let r = wait_for p m in (g : Grown f commute n m labels r.0) × Waits g.labels' (length r.0.lines) r.1 (λ x. Contains (all_of p) x))
+      OnOf m labels (λ x. Contains (all_of p) x) (wait_for p m)
   wait_for_is p m labels st small large =
       let one = events_for_is (map (place_in m) p.small) p.large m labels st (places_once m labels st p.small small.falls small.below) (λ x c. (let i = map_contains (place_in m) p.small x c in subst (λ z. z < length m.lines) i.2 (place_below m labels st i.0 (small.below i.0 i.1)))) large in
       let made = events_for (map (place_in m) p.small) p.large m in
-      let two = event_for_is (length made.1) made.1 made.0 (one.0).labels' (one.0).stands (omega arith) one.1 one.2 in (
+      let two = on_is made.1 made.0 (one.0).labels' (one.0).stands one.1 one.2 (λ x. Contains (all_of p) x) (λ x. (
+        λ r. elim ((one.3 x).0 r) [
+          | inl a ↦ Contains-append_left p.small (flat_map (λ q. q) p.large) x ((places_leaf m labels st p.small small.below x).0 a)
+          | inr c ↦ Contains-append_right p.small (flat_map (λ q. q) p.large) x c
+        ],
+        λ c. (one.3 x).1 (elim (Contains-append_cases p.small (flat_map (λ q. q) p.large) x c) [
+          | inl a ↦ inl ((places_leaf m labels st p.small small.below x).1 a)
+          | inr b ↦ inr b
+        ]),
+      )) (nat_le (length made.1) (most_on made.0.format)) refl in (
         grown_more f commute n m labels made.0 _ one.0 two.0,
-        waits_iff (two.0).labels' _ _ (λ x. LeafOf (one.0).labels' made.1 x) (λ x. Contains (all_of p) x) (λ x. (
-          λ r. elim ((one.3 x).0 r) [
-            | inl a ↦ Contains-append_left p.small (flat_map (λ q. q) p.large) x ((places_leaf m labels st p.small small.below x).0 a)
-            | inr c ↦ Contains-append_right p.small (flat_map (λ q. q) p.large) x c
-          ],
-          λ c. (one.3 x).1 (elim (Contains-append_cases p.small (flat_map (λ q. q) p.large) x c) [
-            | inl a ↦ inl ((places_leaf m labels st p.small small.below x).1 a)
-            | inr b ↦ inr b
-          ]),
-        )) two.1,
+        two.1,
+        two.2,
       )

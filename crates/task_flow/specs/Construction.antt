@@ -1,12 +1,14 @@
 -- The graph that is written for a flow.
-use Rattle.std.specs.Prelude.{◌≡◌, ℕ, zero, suc, ◌+◌, ◌-◌, ◌^◌, ◌<◌, ◌==◌, Bool, true, false, cond, not, ◌&&◌, ◌||◌, nat_lt, List, [], ◌∷◌, ◌++◌, length, map, take, drop, slice_index_or, Option, Some, None, is_none, option_map, option_to_list, find, codes, decimal, bytes_eq}
+use Rattle.std.specs.Prelude.{◌≡◌, ℕ, zero, suc, ◌+◌, ◌-◌, ◌^◌, ◌<◌, ◌==◌, Bool, true, false, cond, not, ◌&&◌, ◌||◌, nat_lt, nat_le, List, [], ◌∷◌, ◌++◌, length, map, take, drop, slice_index_or, Option, Some, None, is_none, option_map, option_to_list, find, codes, decimal, bytes_eq}
 use Rattle.std.specs.Char.{is_ascii_digit}
 use Rattle.std.specs.Option.{option_map_or}
 use Rattle.std.specs.List.{list_any, list_all, range_with_len}
 use Rattle.index_spaces.specs.Space.{has_point, points}
 use Rattle.graph_terms.specs.declared.decl.Decl.{Decl}
 use Rattle.graph_terms.specs.declared.decl.Decl.TheVariants.{Lock}
-use Rattle.graph_terms.specs.declared.limits.TheConstants.{MAX_LINES, MAX_LOCKS}
+use Rattle.graph_terms.specs.declared.format.Format.{Format}
+use Rattle.graph_terms.specs.declared.format.Format.TheVariants.{Three}
+use Rattle.graph_terms.specs.Limits.{limits}
 use Rattle.graph_terms.specs.declared.verb.Access.{Access}
 use Rattle.graph_terms.specs.declared.verb.Mode.{Mode}
 use Rattle.graph_terms.specs.declared.verb.Mode.TheVariants.{Sum}
@@ -69,8 +71,9 @@ lock_for f commute j = length (locks f) + place_of (needed f commute (length f.l
 abbrev pub lock_of : GraphValue → Bool → ℕ → Option ℕ
 lock_of f commute j = cond (is_contended f commute j) (Some (lock_for f commute j)) None
 
--- what stands after some lines: the graph's lines, the place of each line of the flow among them, and the merges by their events. The merge at line k has the name of first + k
+-- what stands after some lines: the graph's format and lines, the place of each line of the flow among them, and the merges by their events. The merge at line k has the name of first + k
 pub record Made : Type 0 where
+  pub format : Format
   pub lines : List Line
   pub places : List ℕ
   pub merges : List (List ℕ × ℕ)
@@ -83,7 +86,7 @@ abbrev pub merge_line : ℕ → List ℕ → Line
 merge_line n es = record { name = new_name n; «verb» = Merge es; «on» = [] }
 
 abbrev pub with_merge : List ℕ → Made → Made
-with_merge es m = record { lines = m.lines ++ merge_line (m.first + length m.lines) es ∷ []; places = m.places; merges = m.merges ++ (es, length m.lines) ∷ []; first = m.first }
+with_merge es m = record { format = m.format; lines = m.lines ++ merge_line (m.first + length m.lines) es ∷ []; places = m.places; merges = m.merges ++ (es, length m.lines) ∷ []; first = m.first }
 
 -- the merge of these events: the one that stands, or a new one
 abbrev pub merge_by : Option (List ℕ × ℕ) → List ℕ → Made → Made × ℕ
@@ -93,12 +96,16 @@ merge_by None es m = (with_merge es m, length m.lines)
 abbrev pub merge_for : List ℕ → Made → Made × ℕ
 merge_for es m = merge_by (find (λ (x : List ℕ × ℕ). bytes_eq x.0 es) m.merges) es m
 
--- one event for these: they are merged by 64, and then the merges, until one is left. The number bounds the steps
+-- the most events that a merge names
+abbrev pub most_merged : Made → ℕ
+most_merged m = (limits m.format).events
+
+-- one event for these: as many as a merge names are merged, and then the merges, until one is left. The number bounds the steps
 abbrev pub event_for : ℕ → List ℕ → Made → Made × Option ℕ
 event_for zero es m = (m, None)
 event_for (suc n) [] m = (m, None)
 event_for (suc n) (e ∷ []) m = (m, Some e)
-event_for (suc n) (e ∷ d ∷ es) m = (let r = merge_for (take 64 (e ∷ d ∷ es)) m in event_for n (with_event (drop 64 (e ∷ d ∷ es)) r.1) r.0)
+event_for (suc n) (e ∷ d ∷ es) m = (let r = merge_for (take (most_merged m) (e ∷ d ∷ es)) m in event_for n (with_event (drop (most_merged m) (e ∷ d ∷ es)) r.1) r.0)
 
 abbrev pub place_in : Made → ℕ → ℕ
 place_in m i = slice_index_or m.places i 0
@@ -108,16 +115,29 @@ abbrev pub events_for : List ℕ → List (List ℕ) → Made → Made × List �
 events_for es [] m = (m, es)
 events_for es (p ∷ ps) m = (let r = event_for (length p) (map (place_in m) p) m in events_for (option_map_or (with_event es) r.1 es) ps r.0)
 
--- what a line waits for: one event at most
+-- the most events behind the `on` of a line in a format
+abbrev pub most_on : Format → ℕ
+most_on Three = (limits Three).events
+most_on _ = 1
+
+-- these events where a line may name so many behind its `on`, and otherwise one for them
+abbrev pub on_by : Bool → List ℕ → Made → Made × List ℕ
+on_by true es m = (m, es)
+on_by false es m = (let e = event_for (length es) es m in (e.0, option_to_list e.1))
+
+abbrev pub on_for : List ℕ → Made → Made × List ℕ
+on_for es m = on_by (nat_le (length es) (most_on m.format)) es m
+
+-- what a line waits for
 abbrev pub wait_for : Parts → Made → Made × List ℕ
-wait_for p m = (let r = events_for (map (place_in m) p.small) p.large m in let e = event_for (length r.1) r.1 r.0 in (e.0, option_to_list e.1))
+wait_for p m = (let r = events_for (map (place_in m) p.small) p.large m in on_for r.1 r.0)
 
 abbrev pub with_flow_line : Line → Made × List ℕ → Made
-with_flow_line l r = record { lines = r.0.lines ++ record { name = l.name; verb = l.verb; «on» = r.1 } ∷ []; places = r.0.places ++ length r.0.lines ∷ []; merges = r.0.merges; first = r.0.first }
+with_flow_line l r = record { format = r.0.format; lines = r.0.lines ++ record { name = l.name; verb = l.verb; «on» = r.1 } ∷ []; places = r.0.places ++ length r.0.lines ∷ []; merges = r.0.merges; first = r.0.first }
 
 -- a line more that is none of the flow
 abbrev pub with_new : Verb → List ℕ → Made → Made
-with_new v on m = record { lines = m.lines ++ record { name = new_name (m.first + length m.lines); «verb» = v; «on» = on } ∷ []; places = m.places; merges = m.merges; first = m.first }
+with_new v on m = record { format = m.format; lines = m.lines ++ record { name = new_name (m.first + length m.lines); «verb» = v; «on» = on } ∷ []; places = m.places; merges = m.merges; first = m.first }
 
 -- a line of the flow in a section of its own: before it an acquire, which waits for what the line waits for; behind it a merge that ignores its fault, and the release
 abbrev pub in_section : ℕ → Line → Made × List ℕ → Made
@@ -147,7 +167,7 @@ number_from f = option_map_or (λ n. n) (first_number f) 0
 
 -- after the first n lines
 abbrev pub made_after : GraphValue → Bool → ℕ → ℕ → Made
-made_after f commute first zero = record { lines = []; places = []; merges = []; first = first }
+made_after f commute first zero = record { format = f.format; lines = []; places = []; merges = []; first = first }
 made_after f commute first (suc n) = with_line_by (lock_of f commute n) (line_in f n) (wait_for (parts_of f commute (sources_after f commute n) n) (made_after f commute first n))
 
 -- a reservation for each of these columns, behind the flow's declarations. No line has the number of their names
@@ -156,7 +176,7 @@ locks_from n [] = []
 locks_from n (c ∷ cs) = Lock (new_name n) ∷ locks_from (suc n) cs
 
 unfoldable pub reservations : GraphValue → Bool → List Decl
-reservations f commute = option_map_or (λ first. locks_from (first + MAX_LINES) (needed f commute (length f.lines))) (first_number f) []
+reservations f commute = option_map_or (λ first. locks_from (first + (limits f.format).lines) (needed f commute (length f.lines))) (first_number f) []
 
 abbrev pub graph_of : GraphValue → Bool → Made → GraphValue
 graph_of f commute m = record { format = f.format; decls = f.decls ++ reservations f commute; lines = m.lines }
@@ -167,7 +187,7 @@ written f commute = graph_of f commute (made_after f commute (number_from f) (le
 
 -- the first n lines need more reservations than a graph may have
 abbrev pub wants_many : GraphValue → Bool → ℕ → Bool
-wants_many f commute n = nat_lt MAX_LOCKS (length (locks f) + length (needed f commute n))
+wants_many f commute n = nat_lt (limits f.format).locks (length (locks f) + length (needed f commute n))
 
 -- line j of the flow needs one reservation too many; or the reservations are few enough, and with line j the graph passes a limit, or wants a name and none is left
 abbrev pub is_over_by : GraphValue → Bool → ℕ → Made → Bool

@@ -1,6 +1,6 @@
 -- What stands in the code while a graph is made.
 use Rattle.std.specs.Prelude.{◌≡◌, ℕ, ◌+◌, ◌<◌, ◌/◌, Bool, false, is_some, [], ◌++◌, length}
-use Rattle.graph_terms.specs.declared.limits.TheConstants.{MAX_LINES}
+use Rattle.graph_terms.specs.Limits.{limits}
 use Rattle.graph_terms.specs.Graph.{GraphValue}
 use Rattle.task_flow.specs.Construction.{Made, is_contended, needed, wants_many, made_after, reservations, first_number, number_from, is_over}
 use Rattle.flow_order.specs.Bits.{word_bit}
@@ -11,11 +11,11 @@ use Rattle.task_flow.specs.declared.sections.Sections.{Sections}
 
 -- the lines of the graph, and those that are to be put into it
 abbrev pub made_of : Making → Made
-made_of m = record { lines = m.graph.lines ++ m.row.items; places = m.places.items; merges = m.merges; first = m.first }
+made_of m = record { format = m.graph.format; lines = m.graph.lines ++ m.row.items; places = m.places.items; merges = m.merges; first = m.first }
 
--- there are more lines than a graph may have
+-- there are more lines than a graph of the format may have
 abbrev pub IsPast : Made → Type 0
-IsPast m = MAX_LINES < length m.lines
+IsPast m = (limits m.format).lines < length m.lines
 
 -- what stands after the first n lines of a flow
 pub record IsMaking (f : GraphValue) (commute : Bool) (n : ℕ) (m : Making) : Type 0 where

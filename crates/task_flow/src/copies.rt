@@ -1,11 +1,12 @@
 //! Copies of items.
 
 ghost use Rattle.std.specs.Prelude.{◌≡◌, ◌<◌, ◌^◌, [], length, take, drop, IfOk, IsTrue};
-ghost use Rattle.graph_terms.specs.declared.format.Format.TheVariants.{One};
 ghost use Rattle.flow_order.specs.Flow.{IsFlow, uses_columns};
 
 use graph_model::graph::Graph;
 use graph_terms::decl::Decl;
+use graph_terms::format::Format;
+use graph_terms::limits::Limits;
 use graph_terms::lists::NameList;
 use graph_terms::name::Name;
 use graph_terms::verb::Verb;
@@ -68,7 +69,7 @@ fn copy_of_space(alloc: Global, space: &Space) -> Result<Space, NoMemory>
     if intervals.len() > 4_294_967_295 {
         return Err(NoMemory);
     }
-    match Space::new(alloc, intervals) {
+    match Space::within(alloc, Limits::of(Format::Three).space, intervals) {
         Ok(copy) => Ok(copy),
         Err(_) => Err(NoMemory),
     }

@@ -1,6 +1,7 @@
 //! The reservations of sections.
 
 ghost use Rattle.std.specs.Prelude.{◌≡◌, ℕ, ◌+◌, ◌<◌, ◌≤◌, ◌++◌, [], length, take, true, false, IfOk, OnOk};
+ghost use Rattle.graph_terms.specs.Limits.{limits};
 ghost use Rattle.graph_terms.specs.Fits.{is_used, is_beyond};
 ghost use Rattle.task_flow.specs.Fitting.{lined};
 ghost use Rattle.task_flow.specs.Construction.{new_name, first_number, locks_from, reservations, is_over};
@@ -10,10 +11,10 @@ ghost use Rattle.task_flow.specs.Making.{AreSections};
 use crate::copies::declared;
 use crate::making::Stop;
 use crate::numbers::new_name;
+use crate::quantities::most_lines;
 use crate::sections::Sections;
 use graph_model::graph::Graph;
 use graph_terms::decl::Decl;
-use graph_terms::limits::MAX_LINES;
 use graph_terms::lists::LineList;
 use std::alloc::Global;
 
@@ -43,15 +44,16 @@ pub(crate) fn declared_with_locks(
 /// Declares a reservation for each column. `Limit` where the graph passes a limit with them.
 fn add_locks(alloc: Global, graph: &mut Graph, first: u64, columns: &LineList) -> Result<(), Stop>
     requires first { first ≤ 100000000000000000 }
-    requires few { length columns.now ≤ 64 }
+    requires few { length columns.now ≤ 1024 }
     requires before { graph.old.lines ≡ [] }
-    requires free { (k : ℕ) → k < length columns.now → is_used (lined graph.old.format (graph.old.decls ++ take k (locks_from (first + MAX_LINES) columns.now)) []) (new_name (first + MAX_LINES + k)) ≡ false }
-    ensures ok { OnOk result (graph.new ≡ lined graph.old.format (graph.old.decls ++ locks_from (first + MAX_LINES) columns.now) []) }
+    requires free { (k : ℕ) → k < length columns.now → is_used (lined graph.old.format (graph.old.decls ++ take k (locks_from (first + (limits graph.old.format).lines) columns.now)) []) (new_name (first + (limits graph.old.format).lines + k)) ≡ false }
+    ensures ok { OnOk result (graph.new ≡ lined graph.old.format (graph.old.decls ++ locks_from (first + (limits graph.old.format).lines) columns.now) []) }
     ensures some { result ≡ Err Stop.Limit → 0 < length columns.now }
-    ensures limit { result ≡ Err Stop.Limit → is_beyond (lined graph.old.format (graph.old.decls ++ locks_from (first + MAX_LINES) columns.now) []) ≡ true }
+    ensures limit { result ≡ Err Stop.Limit → is_beyond (lined graph.old.format (graph.old.decls ++ locks_from (first + (limits graph.old.format).lines) columns.now) []) ≡ true }
 {
+    let lines = most_lines(graph.format());
     for k in 0..columns.len() {
-        let name = new_name(alloc, first, MAX_LINES as u32 + k)?;
+        let name = new_name(alloc, first, lines + k)?;
         let decl = Decl::Lock { name };
         decl.is_well_formed();
         if graph.decl_fault(&decl).is_some() {

@@ -1,10 +1,11 @@
 //! What stands while the graph of a flow is made.
 
 ghost use Rattle.std.specs.Prelude.{◌≡◌, ℕ, ◌+◌, ◌≤◌, ◌<◌, [], length, take, drop, map, not, ◌&&◌, nat_lt, false, true, option_to_list, IsTrue, IfOk, OnOk};
+ghost use Rattle.graph_terms.specs.Limits.{limits};
 ghost use Rattle.graph_terms.specs.Fits.{is_beyond};
 ghost use Rattle.flow_order.specs.Flow.{IsFlow, uses_columns};
 ghost use Rattle.flow_order.specs.Rows.{IsKept};
-ghost use Rattle.task_flow.specs.Construction.{merge_for, event_for, events_for, place_in, wait_for, with_new, with_flow_line, in_section, with_line_by, is_over};
+ghost use Rattle.task_flow.specs.Construction.{most_merged, merge_for, event_for, events_for, on_for, place_in, wait_for, with_new, with_flow_line, in_section, with_line_by, is_over};
 ghost use Rattle.flow_order.specs.SourceParts.{with_event};
 ghost use Rattle.task_flow.specs.Fitting.{AreToFit, with_lines};
 
@@ -12,11 +13,12 @@ use crate::copies::copy_of_verb;
 use crate::locks::declared_with_locks;
 use crate::merges::Merges;
 use crate::numbers::{first_number, new_name};
+use crate::quantities::{most_lines, most_on};
 use crate::sections::Sections;
 use flow_order::rows::Rows;
 use flow_order::sources::{Parts, add_row, has, parts_of};
 use graph_model::graph::Graph;
-use graph_terms::limits::{MAX_EVENTS, MAX_LINES};
+use graph_terms::limits::Limits;
 use graph_terms::lists::{EventList, LineList};
 use graph_terms::verb::{Line, Verb};
 use index_spaces::NoMemory;
@@ -82,11 +84,13 @@ impl Making {
     /// The number of the next line. `Limit` where there are as many as a graph may have.
     fn next_line(&self) -> Result<u32, Stop>
         ensures ok { IfOk result (λ n. n ≡ length (made_of self.now).lines) }
-        ensures few { OnOk result (length (made_of self.now).lines < MAX_LINES) }
-        ensures limit { result ≡ Err Stop.Limit → MAX_LINES ≤ length (made_of self.now).lines }
+        ensures few { OnOk result (length (made_of self.now).lines < (limits self.now.graph.format).lines) }
+        ensures small { IfOk result (λ n. n < 65536) }
+        ensures limit { result ≡ Err Stop.Limit → (limits self.now.graph.format).lines ≤ length (made_of self.now).lines }
     {
         let count = u64::from(self.graph.lines()) + self.row.len() as u64;
-        if count < MAX_LINES {
+        let most = u64::from(most_lines(self.graph.format()));
+        if count < most {
             Ok(count as u32)
         } else {
             Err(Stop::Limit)
@@ -113,7 +117,8 @@ impl Making {
         Ok(line)
     }
 
-    /// One event for these: they are merged by 64, and then the merges, until one is left.
+    /// One event for these: as many as a merge names are merged, and then the merges, until one is
+    /// left.
     fn event_for(&mut self, alloc: Global, events: LineList) -> Result<Option<u32>, Stop>
         ensures ok { IfOk result (λ e. (made_of self.new, e) ≡ event_for (length events) events (made_of self.old)) }
         ensures graph { self.new.graph ≡ self.old.graph }
@@ -122,15 +127,23 @@ impl Making {
     {
         let mut left = events;
         while left.len() > 1 {
-            let front = front_of(alloc, &left)?;
+            let most = self.most_merged();
+            let front = front_of(alloc, &left, most)?;
             let merge = self.merge_for(alloc, front)?;
-            left = rest_of(alloc, &left, merge)?;
+            left = rest_of(alloc, &left, most, merge)?;
         }
         if left.len() == 1 {
             Ok(Some(left.at(0)))
         } else {
             Ok(None)
         }
+    }
+
+    /// The most events that a merge names.
+    fn most_merged(&self) -> u32
+        ensures { result ≡ most_merged (made_of self.now) }
+    {
+        Limits::of(self.graph.format()).events
     }
 
     /// These events and one for each large part.
@@ -167,7 +180,21 @@ impl Making {
         Ok(places)
     }
 
-    /// What a line of the flow with these sources waits for: one event at most.
+    /// These events where a line may name so many behind its `on`, and otherwise one for them.
+    fn on_for(&mut self, alloc: Global, events: LineList) -> Result<EventList, Stop>
+        ensures ok { IfOk result (λ on. (made_of self.new, on) ≡ on_for events (made_of self.old)) }
+        ensures graph { self.new.graph ≡ self.old.graph }
+        ensures named { self.new.named ≡ self.old.named }
+        ensures limit { result ≡ Err Stop.Limit → IsPast (on_for events (made_of self.old)).0 }
+    {
+        if events.len() <= most_on(self.graph.format()) {
+            return Ok(list_of(alloc, &events)?);
+        }
+        let event = self.event_for(alloc, events)?;
+        Ok(event_list(alloc, event)?)
+    }
+
+    /// What a line of the flow with these sources waits for.
     fn wait_for(&mut self, alloc: Global, parts: &Parts) -> Result<EventList, Stop>
         ensures ok { IfOk result (λ on. (made_of self.new, on) ≡ wait_for parts.now (made_of self.old)) }
         ensures graph { self.new.graph ≡ self.old.graph }
@@ -176,15 +203,14 @@ impl Making {
     {
         let small = self.places_of(alloc, &parts.small)?;
         let events = self.events_for(alloc, small, parts.large.as_slice())?;
-        let event = self.event_for(alloc, events)?;
-        Ok(event_list(alloc, event)?)
+        self.on_for(alloc, events)
     }
 
     /// Makes a line that is none of the flow, and gives its number.
     fn push_new(&mut self, alloc: Global, verb: Verb, on: EventList) -> Result<u32, Stop>
         ensures ok { OnOk result (made_of self.new ≡ with_new verb on (made_of self.old)) }
         ensures line { IfOk result (λ n. n ≡ length (made_of self.old).lines) }
-        ensures few { OnOk result (length (made_of self.new).lines ≤ MAX_LINES) }
+        ensures few { OnOk result (length (made_of self.new).lines ≤ (limits self.new.graph.format).lines) }
         ensures graph { self.new.graph ≡ self.old.graph }
         ensures named { self.new.named ≡ self.old.named }
         ensures limit { result ≡ Err Stop.Limit → IsPast (with_new verb on (made_of self.old)) }
@@ -200,7 +226,7 @@ impl Making {
         requires { IsTrue (uses_columns line.now.verb) }
         ensures ok { OnOk result (made_of self.new ≡ with_flow_line line.now (made_of self.old, on)) }
         ensures line { IfOk result (λ n. n ≡ length (made_of self.old).lines) }
-        ensures few { OnOk result (length (made_of self.new).lines ≤ MAX_LINES) }
+        ensures few { OnOk result (length (made_of self.new).lines ≤ (limits self.new.graph.format).lines) }
         ensures graph { self.new.graph ≡ self.old.graph }
         ensures named { self.new.named ≡ self.old.named }
         ensures limit { result ≡ Err Stop.Limit → IsPast (with_flow_line line.now (made_of self.old, on)) }
@@ -223,7 +249,7 @@ impl Making {
     ) -> Result<u32, Stop>
         requires { IsTrue (uses_columns line.now.verb) }
         ensures ok { OnOk result (made_of self.new ≡ in_section lock line.now (made_of self.old, on)) }
-        ensures few { OnOk result (length (made_of self.new).lines ≤ MAX_LINES) }
+        ensures few { OnOk result (length (made_of self.new).lines ≤ (limits self.new.graph.format).lines) }
         ensures graph { self.new.graph ≡ self.old.graph }
         ensures named { self.new.named ≡ self.old.named }
         ensures limit { result ≡ Err Stop.Limit → IsPast (in_section lock line.now (made_of self.old, on)) }
@@ -250,7 +276,7 @@ impl Making {
     ) -> Result<u32, Stop>
         requires { IsTrue (uses_columns line.now.verb) }
         ensures ok { OnOk result (made_of self.new ≡ with_line_by lock line.now (wait_for parts.now (made_of self.old))) }
-        ensures few { OnOk result (length (made_of self.new).lines ≤ MAX_LINES) }
+        ensures few { OnOk result (length (made_of self.new).lines ≤ (limits self.new.graph.format).lines) }
         ensures graph { self.new.graph ≡ self.old.graph }
         ensures named { self.new.named ≡ self.old.named }
         ensures limit { result ≡ Err Stop.Limit → IsPast (with_line_by lock line.now (wait_for parts.now (made_of self.old))) }
@@ -324,23 +350,34 @@ fn event_list(alloc: Global, event: Option<u32>) -> Result<EventList, NoMemory>
     Ok(on)
 }
 
-/// The first of some events, at most as many as a merge names.
-fn front_of(alloc: Global, events: &LineList) -> Result<LineList, NoMemory>
-    ensures { IfOk result (λ front. front ≡ take 64 events.now) }
+/// These events.
+fn list_of(alloc: Global, events: &LineList) -> Result<EventList, NoMemory>
+    ensures { IfOk result (λ on. on ≡ events.now) }
+{
+    let mut on = EventList::new(alloc);
+    for i in 0..events.len() {
+        on.push(events.at(i))?;
+    }
+    Ok(on)
+}
+
+/// The first of some events, at most so many.
+fn front_of(alloc: Global, events: &LineList, most: u32) -> Result<LineList, NoMemory>
+    ensures { IfOk result (λ front. front ≡ take most events.now) }
 {
     let mut front = LineList::new(alloc);
-    for i in 0..events.len().min(MAX_EVENTS) {
+    for i in 0..events.len().min(most) {
         front.push(events.at(i))?;
     }
     Ok(front)
 }
 
-/// The other events, and one more.
-fn rest_of(alloc: Global, events: &LineList, event: u32) -> Result<LineList, NoMemory>
-    ensures { IfOk result (λ rest. rest ≡ with_event (drop 64 events.now) event) }
+/// The events behind so many, and one more.
+fn rest_of(alloc: Global, events: &LineList, most: u32, event: u32) -> Result<LineList, NoMemory>
+    ensures { IfOk result (λ rest. rest ≡ with_event (drop most events.now) event) }
 {
     let mut rest = LineList::new(alloc);
-    for i in MAX_EVENTS..events.len() {
+    for i in most..events.len() {
         rest.push(events.at(i))?;
     }
     add_event(&mut rest, event)?;

@@ -15,7 +15,7 @@ use std::alloc::Global;
 /// The name of an `m` and a number.
 pub(crate) fn new_name(alloc: Global, first: u64, line: u32) -> Result<Name, NoMemory>
     requires first { first ≤ 100000000000000000 }
-    requires line { line < 65536 }
+    requires line { line < 131072 }
     ensures { IfOk result (λ name. name ≡ new_name (first + line)) }
 {
     let number = first + u64::from(line);

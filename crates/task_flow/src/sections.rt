@@ -9,9 +9,9 @@ ghost use Rattle.task_flow.specs.Refusal.{IsFlowRefusal};
 use crate::contended::{contended, summed_column};
 use crate::make::FlowRefusal;
 use crate::making::add_event;
+use crate::quantities::most_locks;
 use flow_order::bits::Bits;
 use graph_model::graph::Graph;
-use graph_terms::limits::MAX_LOCKS;
 use graph_terms::lists::LineList;
 use index_spaces::NoMemory;
 use std::alloc::Global;
@@ -72,13 +72,14 @@ fn needed(
     ensures refusal { IfErr result (IsFlowRefusal flow.now commute) }
 {
     let mut columns = LineList::new(alloc);
+    let most = most_locks(flow.format());
     let locks = u64::from(flow.locks());
     for line in 0..flow.lines() {
         if !contended.test(line) {
             continue;
         }
         add_event(&mut columns, summed_column(flow, line))?;
-        if locks + u64::from(columns.len()) > MAX_LOCKS {
+        if locks + u64::from(columns.len()) > most {
             return Err(FlowRefusal::Limit { line });
         }
     }

@@ -32,7 +32,7 @@ noted_text slot before note = cond (length note == 0) [] (note_line slot (before
 
 -- what kind of word stands at number k of the form, from 0, and how it is spelled
 abbrev pub note_text : Format → Why → Form → List (List ℕ) → ℕ → List ℕ
-note_text format reason f ws k = noted_text (slot_at format f k) (length (take k ws)) (note_of reason (slot_at format f k))
+note_text format reason f ws k = noted_text (slot_at format f k) (length (take k ws)) (note_of format reason (slot_at format f k))
 
 -- how names are spelled
 abbrev pub name_rule : Format → List ℕ

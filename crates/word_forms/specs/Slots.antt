@@ -3,6 +3,7 @@ use Rattle.std.specs.Prelude.{ℕ, Bool, ◌&&◌, ◌||◌, nat_lt, nat_le, con
 use Rattle.std.specs.List.{slice_index_or}
 use Rattle.std.specs.Str.{bytes_eq}
 use Rattle.graph_terms.specs.declared.format.Format.{Format}
+use Rattle.graph_terms.specs.declared.format.Format.TheVariants.{Three}
 use Rattle.graph_terms.specs.declared.why.Why.{Why}
 use Rattle.graph_terms.specs.declared.why.Why.TheVariants as why
 use Rattle.graph_words.specs.Words.{pieces}
@@ -65,13 +66,22 @@ name_note slots.Fields = codes "one NAME or more, with , between two and no spac
 name_note slots.Column = codes "INSTANCE.FIELD, two NAMEs with one . between them"
 name_note _ = codes "a NAME"
 
+-- of the arrivals of a phase, and of what one arrival counts for
+abbrev pub count_note : Format → List ℕ
+count_note Three = codes "a number from 1 to 65536, in digits, with no 0 in front"
+count_note _ = codes "a number from 1 to 8192, in digits, with no 0 in front"
+
+abbrev pub weight_note : Format → List ℕ
+weight_note Three = codes "a number from 2 to 65536, in digits, with no 0 in front; an arrival that counts for one has no times"
+weight_note _ = codes "a number from 2 to 8192, in digits, with no 0 in front; an arrival that counts for one has no times"
+
 -- of one that is no number of its range
-abbrev pub number_note : Slot → List ℕ
-number_note slots.Intervals = codes "LOW..HIGH, or several with , between two and no space; LOW and HIGH are numbers from 0 to 4294967295, in digits, with no 0 in front"
-number_note slots.Count = codes "a number from 1 to 8192, in digits, with no 0 in front"
-number_note slots.Weight = codes "a number from 2 to 8192, in digits, with no 0 in front; an arrival that counts for one has no times"
-number_note slots.Value = codes "a number from 0 to 18446744073709551615, in digits, with no sign, no point and no 0 in front"
-number_note _ = []
+abbrev pub number_note : Format → Slot → List ℕ
+number_note format slots.Intervals = codes "LOW..HIGH, or several with , between two and no space; LOW and HIGH are numbers from 0 to 4294967295, in digits, with no 0 in front"
+number_note format slots.Count = count_note format
+number_note format slots.Weight = weight_note format
+number_note format slots.Value = codes "a number from 0 to 18446744073709551615, in digits, with no sign, no point and no 0 in front"
+number_note format _ = []
 
 -- of one that names something else than its place takes
 abbrev pub kind_note : Slot → List ℕ
@@ -85,8 +95,8 @@ kind_note slots.Barrier = codes "the NAME of a barrier: barrier NAME COUNT OP VA
 kind_note slots.Event = codes "the NAME of an operation: NAME = .."
 kind_note _ = []
 
-abbrev pub note_of : Why → Slot → List ℕ
-note_of why.Name slot = name_note slot
-note_of why.Number slot = number_note slot
-note_of why.Kind slot = kind_note slot
-note_of _ slot = []
+abbrev pub note_of : Format → Why → Slot → List ℕ
+note_of format why.Name slot = name_note slot
+note_of format why.Number slot = number_note format slot
+note_of format why.Kind slot = kind_note slot
+note_of format _ slot = []

@@ -186,7 +186,7 @@ fn put_note(
     ensures { OnOk result (out.new.items ≡ out.old.items ++ note_text format why form (contents words.now) k) }
 {
     let slot = slot_at(alloc, format, form, k)?;
-    put_noted(out, slot, front(words, k).len(), note_of(why, slot))
+    put_noted(out, slot, front(words, k).len(), note_of(format, why, slot))
 }
 
 /// Puts a note on a word behind so many words, where there is one.

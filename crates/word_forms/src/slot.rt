@@ -1,5 +1,6 @@
 //! What kind of word stands in each place of a form, and how words of that kind are spelled.
 
+use graph_terms::format::Format;
 use graph_terms::why::Why;
 
 /// What kind of word stands in a place of a form, as docs/LANGUAGE.md names it.
@@ -24,7 +25,7 @@ pub enum Slot {
 }
 
 ghost use Rattle.std.specs.Prelude.{◌≡◌};
-ghost use Rattle.word_forms.specs.Slots.{name_slot, slot_of, slot_word, name_note, number_note, kind_note, note_of};
+ghost use Rattle.word_forms.specs.Slots.{name_slot, slot_of, slot_word, name_note, count_note, weight_note, number_note, kind_note, note_of};
 
 /// What kind of word a word of a form stands for.
 pub(crate) fn slot_of(item: &[u8]) -> Slot
@@ -106,12 +107,12 @@ pub(crate) fn slot_word(slot: Slot) -> &'static [u8]
 }
 
 /// What is told of a word of this kind that is refused for this reason, nothing for others.
-pub(crate) fn note_of(why: Why, slot: Slot) -> &'static [u8]
-    ensures { result.now ≡ note_of why slot }
+pub(crate) fn note_of(format: Format, why: Why, slot: Slot) -> &'static [u8]
+    ensures { result.now ≡ note_of format why slot }
 {
     match why {
         Why::Name => name_note(slot),
-        Why::Number => number_note(slot),
+        Why::Number => number_note(format, slot),
         Why::Kind => kind_note(slot),
         _ => b"",
     }
@@ -130,21 +131,43 @@ fn name_note(slot: Slot) -> &'static [u8]
 }
 
 /// Of one that is no number of its range.
-fn number_note(slot: Slot) -> &'static [u8]
-    ensures { result.now ≡ number_note slot }
+fn number_note(format: Format, slot: Slot) -> &'static [u8]
+    ensures { result.now ≡ number_note format slot }
 {
     match slot {
         Slot::Intervals => {
             b"LOW..HIGH, or several with , between two and no space; LOW and HIGH are numbers from 0 to 4294967295, in digits, with no 0 in front"
         }
-        Slot::Count => b"a number from 1 to 8192, in digits, with no 0 in front",
-        Slot::Weight => {
-            b"a number from 2 to 8192, in digits, with no 0 in front; an arrival that counts for one has no times"
-        }
+        Slot::Count => count_note(format),
+        Slot::Weight => weight_note(format),
         Slot::Value => {
             b"a number from 0 to 18446744073709551615, in digits, with no sign, no point and no 0 in front"
         }
         _ => b"",
+    }
+}
+
+/// Of the arrivals of a phase.
+fn count_note(format: Format) -> &'static [u8]
+    ensures { result.now ≡ count_note format }
+{
+    match format {
+        Format::Three => b"a number from 1 to 65536, in digits, with no 0 in front",
+        _ => b"a number from 1 to 8192, in digits, with no 0 in front",
+    }
+}
+
+/// Of what one arrival counts for.
+fn weight_note(format: Format) -> &'static [u8]
+    ensures { result.now ≡ weight_note format }
+{
+    match format {
+        Format::Three => {
+            b"a number from 2 to 65536, in digits, with no 0 in front; an arrival that counts for one has no times"
+        }
+        _ => {
+            b"a number from 2 to 8192, in digits, with no 0 in front; an arrival that counts for one has no times"
+        }
     }
 }
 

@@ -4,14 +4,14 @@ ghost use Rattle.std.specs.Prelude.{◌≡◌, ◌≤◌, ◌+◌, ◌++◌, len
 ghost use Rattle.graph_terms.specs.Graph.{is_phase_of};
 ghost use Rattle.graph_terms.specs.Edges.{edge, last_place, edges_from_some, verb_edges, line_edges};
 
-use graph_terms::limits::MAX_LINES;
+use graph_terms::limits::MAX_LINES_OF_THREE;
 use graph_terms::verb::{Edge, EdgeKind, Line, Verb};
 use index_spaces::NoMemory;
 use index_spaces::room::{push, push_within, reserve};
 
 /// Makes the list that of the edges that a line gives after these lines, in order.
 pub(crate) fn list_edges(given: &mut Vec<Edge>, lines: &[Line], line: &Line) -> Result<(), NoMemory>
-    requires { length lines.now ≤ MAX_LINES }
+    requires { length lines.now ≤ MAX_LINES_OF_THREE }
     ensures { OnOk result (given.new.items ≡ line_edges lines.now line.now) }
 {
     let place = lines.len() as u32;
@@ -22,7 +22,7 @@ pub(crate) fn list_edges(given: &mut Vec<Edge>, lines: &[Line], line: &Line) -> 
 
 /// How many edges a line gives after these lines.
 pub(crate) fn count_edges(lines: &[Line], line: &Line) -> usize
-    requires { length lines.now ≤ MAX_LINES }
+    requires { length lines.now ≤ MAX_LINES_OF_THREE }
     ensures number { result ≡ length (line_edges lines.now line.now) }
     ensures few { result ≤ 8589934592 }
 {
@@ -30,7 +30,7 @@ pub(crate) fn count_edges(lines: &[Line], line: &Line) -> usize
 }
 
 fn count_verb_edges(lines: &[Line], verb: &Verb) -> usize
-    requires { length lines.now ≤ MAX_LINES }
+    requires { length lines.now ≤ MAX_LINES_OF_THREE }
     ensures number { result ≡ length (verb_edges lines.now (length lines.now) verb.now) }
     ensures few { result ≤ 4294967296 }
 {
@@ -71,7 +71,7 @@ fn push_verb_edges(
     place: u32,
     verb: &Verb,
 ) -> Result<(), NoMemory>
-    requires { length lines.now ≤ MAX_LINES }
+    requires { length lines.now ≤ MAX_LINES_OF_THREE }
     ensures { OnOk result (given.new.items ≡ given.old.items ++ verb_edges lines.now place verb.now) }
 {
     match verb {
@@ -116,7 +116,7 @@ fn push_sources(
 
 /// The last phase of a barrier among these lines.
 fn last_phase(lines: &[Line], barrier: u32) -> Option<u32>
-    requires { length lines.now ≤ MAX_LINES }
+    requires { length lines.now ≤ MAX_LINES_OF_THREE }
     ensures { result ≡ last_place (is_phase_of barrier) 0 lines.now None }
 {
     let mut place = lines.len();

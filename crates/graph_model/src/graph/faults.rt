@@ -6,18 +6,17 @@ ghost use Rattle.graph_terms.specs.declared.verb.Access.{Access};
 ghost use Rattle.graph_terms.specs.Access.{present, columns_alike};
 ghost use Rattle.graph_terms.specs.Fits.{repeats, most_weight, decl_repeats, decl_misnumbered, is_large, named_lines, takes_no_on, on_unlike, format_lacks, verb_misnumbered, merged_events, names_many};
 
-use super::{Graph, most_events};
-use crate::graph::repeats::{names_repeat, numbers_repeat};
+use super::Graph;
 use graph_indexes::counts::Counts;
+use graph_indexes::repeats::{names_repeat, numbers_repeat};
 use graph_terms::access::{Accesses, verb_accesses};
 use graph_terms::decl::Decl;
 use graph_terms::format::Format;
-use graph_terms::limits::MAX_COUNT;
+use graph_terms::limits::Limits;
 use graph_terms::name::Name;
 use graph_terms::verb::{Access, Line, Verb};
 use graph_terms::why::Why;
 use index_spaces::laws::points_are_listed;
-use index_spaces::limits::{MAX_INTERVALS, MAX_POINTS};
 
 impl Graph {
     ghost use Rattle.std.specs.Prelude.{◌≡◌, false, IsTrue};
@@ -38,10 +37,10 @@ impl Graph {
         if self.decl_unknown(decl) {
             return Some(Why::Unknown);
         }
-        if decl_misnumbered(decl) {
+        if decl_misnumbered(self.format, decl) {
             return Some(Why::Number);
         }
-        if is_large(decl) || self.counts_with_decl(decl).is_above() {
+        if is_large(self.format, decl) || self.counts_with_decl(decl).is_above(self.format) {
             return Some(Why::Limit);
         }
         None
@@ -92,7 +91,7 @@ impl Graph {
         if self.arrives_late(&line.verb) {
             return Some(Why::Arrivals);
         }
-        if names_many(self.format, line) || counts.is_above() {
+        if names_many(self.format, line) || counts.is_above(self.format) {
             return Some(Why::Limit);
         }
         None
@@ -241,7 +240,7 @@ impl Graph {
     {
         match verb {
             Verb::Arrive { phase, weight, .. } => {
-                let arrived = u64::from(self.mark(*phase).arrivals) + u64::from(*weight);
+                let arrived = self.mark(*phase).arrivals + u64::from(*weight);
                 arrived > u64::from(self.phase_count(*phase))
             }
             _ => false,
@@ -258,23 +257,24 @@ fn decl_repeats(decl: &Decl) -> bool
     }
 }
 
-fn decl_misnumbered(decl: &Decl) -> bool
-    ensures { result ≡ decl_misnumbered decl.now }
+fn decl_misnumbered(format: Format, decl: &Decl) -> bool
+    ensures { result ≡ decl_misnumbered format decl.now }
 {
     match decl {
         Decl::Inst { fields, .. } => fields.len() < 1,
-        Decl::Barrier { count, .. } => *count < 1 || *count > MAX_COUNT,
+        Decl::Barrier { count, .. } => *count < 1 || *count > Limits::of(format).count,
         _ => false,
     }
 }
 
 /// Whether a declared space has too many intervals or points.
-fn is_large(decl: &Decl) -> bool
-    ensures { result ≡ is_large decl.now }
+fn is_large(format: Format, decl: &Decl) -> bool
+    ensures { result ≡ is_large format decl.now }
 {
     match decl {
         Decl::Space { space, .. } => {
-            space.intervals().len() > MAX_INTERVALS || space.size() > MAX_POINTS
+            let limits = Limits::of(format).space;
+            space.intervals().len() > limits.intervals as usize || space.size() > limits.points
         }
         _ => false,
     }
@@ -353,7 +353,7 @@ fn most_weight(format: Format) -> u32
 {
     match format {
         Format::One => 1,
-        _ => MAX_COUNT,
+        _ => Limits::of(format).count,
     }
 }
 
@@ -383,6 +383,6 @@ fn merged_events(verb: &Verb) -> u32
 fn names_many(format: Format, line: &Line) -> bool
     ensures { result ≡ names_many format line.now.verb line.now.on }
 {
-    let most = most_events(format);
+    let most = Limits::of(format).events;
     merged_events(&line.verb) > most || line.on.len() > most
 }

@@ -2,10 +2,10 @@
 
 use super::Graph;
 use crate::graph::edges::count_edges;
-use graph_indexes::counts::{Counts, barriers_of, columns_of, insts_of, locks_of};
+use graph_indexes::counts::{Counts, barriers_of, columns_of, insts_of, locks_of, spaces_of};
 use graph_terms::decl::Decl;
 use graph_terms::verb::Line;
-use index_spaces::limits::MAX_POINTS;
+use index_spaces::limits::MAX_POINTS_OF_THREE;
 
 impl Graph {
     ghost use Rattle.std.specs.Prelude.{◌≡◌, ◌≤◌};
@@ -20,6 +20,7 @@ impl Graph {
     {
         Counts {
             text: self.counts.text + self.decl_size(decl),
+            spaces: self.counts.spaces + spaces_of(decl),
             insts: self.counts.insts + insts_of(decl),
             columns: self.counts.columns + columns_of(decl),
             cells: self.counts.cells + self.cells_of(decl),
@@ -36,6 +37,7 @@ impl Graph {
     {
         Counts {
             text: self.counts.text + self.line_size(line),
+            spaces: self.counts.spaces,
             insts: self.counts.insts,
             columns: self.counts.columns,
             cells: self.counts.cells,
@@ -49,7 +51,7 @@ impl Graph {
     /// How many cells the columns of a declaration have.
     fn cells_of(&self, decl: &Decl) -> u64
         ensures cells { result ≡ cells_of_decl self.now decl.now }
-        ensures few { result ≤ 4503599627370496 }
+        ensures few { result ≤ 18446744069414584320 }
     {
         match decl {
             Decl::Inst { space, fields, .. } => { u64::from(fields.len()) * self.points_of(*space) }
@@ -60,11 +62,11 @@ impl Graph {
     /// How many points a space has: none where it is not declared.
     fn points_of(&self, s: u32) -> u64
         ensures points { result ≡ space_size (space_at self.now s) }
-        ensures few { result ≤ MAX_POINTS }
+        ensures few { result ≤ MAX_POINTS_OF_THREE }
     {
         if s >= self.spaces() {
             return 0;
         }
-        u64::from(self.space(s).size())
+        self.space(s).size()
     }
 }

@@ -2,17 +2,17 @@
 
 ghost use Rattle.std.specs.Prelude.{◌≡◌, ◌<◌, ◌≤◌, ◌^◌, length, IfNone};
 ghost use Rattle.index_spaces.specs.Space.{space_size, AscendAbove, IsSpace};
-ghost use Rattle.index_spaces.specs.SpaceFault.{first_misplaced, space_fault};
+ghost use Rattle.index_spaces.specs.SpaceFault.{first_misplaced, space_fault_in};
 
-use crate::limits::{MAX_INTERVALS, MAX_POINTS};
+use crate::limits::SpaceLimits;
 use crate::space::SpaceFault;
 
-/// The first reason that these pairs make no space.
-pub(crate) fn fault_of(pairs: &[(u32, u32)]) -> Option<SpaceFault>
+/// The first reason that these pairs make no space within these limits.
+pub(crate) fn fault_of(limits: SpaceLimits, pairs: &[(u32, u32)]) -> Option<SpaceFault>
     requires { length pairs.now < 2 ^ 32 }
-    ensures first { result ≡ space_fault pairs.now }
+    ensures first { result ≡ space_fault_in limits pairs.now }
     ensures is_space { IfNone result (IsSpace pairs.now) }
-    ensures few { IfNone result (space_size pairs.now ≤ MAX_POINTS) }
+    ensures few { IfNone result (space_size pairs.now ≤ limits.points) }
 {
     if pairs.is_empty() {
         return Some(SpaceFault::Empty);
@@ -20,10 +20,10 @@ pub(crate) fn fault_of(pairs: &[(u32, u32)]) -> Option<SpaceFault>
     if let Some(fault) = misplaced(pairs) {
         return Some(fault);
     }
-    if pairs.len() > MAX_INTERVALS {
+    if pairs.len() > limits.intervals as usize {
         return Some(SpaceFault::Many);
     }
-    (point_count(pairs) > u64::from(MAX_POINTS)).then_some(SpaceFault::Large)
+    (point_count(pairs) > limits.points).then_some(SpaceFault::Large)
 }
 
 /// The first pair that is reversed, or that does not begin at least two above the one before.

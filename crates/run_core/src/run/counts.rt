@@ -3,7 +3,7 @@
 ghost use Rattle.std.specs.Prelude.{◌≡◌, ◌≤◌, ◌<◌, length, map, not, ◌&&◌};
 ghost use Rattle.basics.specs.Lists.{count_below};
 ghost use Rattle.graph_terms.specs.Graph.{never_comes};
-ghost use Rattle.graph_terms.specs.declared.limits.TheConstants.{MAX_LINES};
+ghost use Rattle.graph_terms.specs.declared.limits.TheConstants.{MAX_LINES_OF_THREE};
 ghost use Rattle.run_state.specs.Run.{ended, stage_at, stage_ended};
 ghost use Rattle.run_core.specs.Counts.{has_stage};
 ghost use Rattle.run_core.specs.Kept.{shown_stage};
@@ -36,7 +36,7 @@ impl<'g> Core<'g> {
 
 /// How many of these are at this stage.
 fn count_at(stages: &[Progress], stage: Stage) -> u32
-    requires few { length stages.now ≤ MAX_LINES }
+    requires few { length stages.now ≤ MAX_LINES_OF_THREE }
     ensures { result ≡ count_below (λ i. has_stage stage (stage_at (map shown_stage stages.now) i)) (length stages.now) }
 {
     let mut count = 0;

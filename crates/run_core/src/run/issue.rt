@@ -53,6 +53,5 @@ impl<'g> Core<'g> {
     {
         left_below_need();
         let _ = self.checked.need();
-        let _ = self.checked.graph().lines();
     }
 }

@@ -16,7 +16,7 @@ use crate::run::Core;
 use crate::sources::end_of;
 use graph_meaning::laws::sections_never_overlap;
 use graph_model::graph::Graph;
-use graph_terms::limits::MAX_LINES;
+use graph_terms::limits::MAX_LINES_OF_THREE;
 use graph_terms::lists::{AnswerList, EndList, LineList, ValueList};
 use graph_terms::outcome::{Answer, End, Outcome};
 use graph_terms::verb::Verb;
@@ -75,7 +75,7 @@ impl<'g> Core<'g> {
 
 /// The end of each line.
 fn ends_of(stages: &[Progress], mut ends: Vec<End>) -> EndList
-    requires few { length stages.now ≤ MAX_LINES }
+    requires few { length stages.now ≤ MAX_LINES_OF_THREE }
     requires empty { ends.items ≡ [] }
     requires room { length stages.now ≤ vec_capacity ends }
     ensures { result ≡ map (λ p. end_so_far (shown_stage p)) stages.now }
@@ -88,7 +88,7 @@ fn ends_of(stages: &[Progress], mut ends: Vec<End>) -> EndList
 
 /// What the handle of each line answers.
 fn answers_of(events: &LineEvents, stages: &[Progress], mut answers: Vec<Answer>) -> AnswerList
-    requires few { length stages.now ≤ MAX_LINES }
+    requires few { length stages.now ≤ MAX_LINES_OF_THREE }
     requires issued { length events.now.handles ≡ length stages.now }
     requires created { (i : ℕ) (h : TheHandle) → slice_get events.now.handles i ≡ Some h → IsSome (answer events.now.table h) }
     requires empty { answers.items ≡ [] }

@@ -21,7 +21,7 @@ use event_table::EventTable;
 use event_table::limits::MAX_SLOTS;
 use graph_meaning::laws::needs_are_one;
 use graph_model::graph::Graph;
-use graph_terms::limits::MAX_LINES;
+use graph_terms::limits::MAX_LINES_OF_THREE;
 use graph_terms::lists::ValueList;
 use graph_terms::outcome::End;
 use graph_terms::verb::Verb;
@@ -66,7 +66,7 @@ fn is_done(state: LineState) -> bool
 
 /// How far each line has come.
 fn stages_of(lines: &[LineState], mut stages: Vec<Progress>) -> Vec<Progress>
-    requires few { length lines.now ≤ MAX_LINES }
+    requires few { length lines.now ≤ MAX_LINES_OF_THREE }
     requires room { length lines.now ≤ vec_capacity stages }
     ensures { result.items ≡ map progress_for lines.now }
 {
@@ -89,7 +89,7 @@ fn value_or_zero(value: Option<u64>) -> u64
 
 /// The values of the phases, and 0 for other lines.
 fn values_of(phases: &[Option<u64>], mut values: Vec<u64>) -> Vec<u64>
-    requires few { length phases.now ≤ MAX_LINES }
+    requires few { length phases.now ≤ MAX_LINES_OF_THREE }
     requires room { length phases.now ≤ vec_capacity values }
     ensures { result.items ≡ map value_or_zero phases.now }
 {
@@ -124,7 +124,7 @@ fn put_at_time(state: LineState, line: u32, trace: &mut Vec<u32>)
 
 /// As many items as lines that have ended.
 fn places_for(lines: &[LineState], mut trace: Vec<u32>) -> Vec<u32>
-    requires few { length lines.now ≤ MAX_LINES }
+    requires few { length lines.now ≤ MAX_LINES_OF_THREE }
     requires room { length lines.now ≤ vec_capacity trace }
     ensures count { length result.items ≡ count_below (over_at lines.now) (length lines.now) }
     ensures room { vec_capacity trace ≤ vec_capacity result }
@@ -138,7 +138,7 @@ fn places_for(lines: &[LineState], mut trace: Vec<u32>) -> Vec<u32>
 
 /// The lines that have ended, each at the place of its time.
 fn trace_of(lines: &[LineState], trace: Vec<u32>) -> Vec<u32>
-    requires few { length lines.now ≤ MAX_LINES }
+    requires few { length lines.now ≤ MAX_LINES_OF_THREE }
     requires room { length lines.now ≤ vec_capacity trace }
     requires times { (i : ℕ) (s : TheState) → slice_get lines.now i ≡ Some s → stage_is_over s.stage ≡ true
         → s.time < count_below (over_at lines.now) (length lines.now) }

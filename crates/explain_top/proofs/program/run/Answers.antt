@@ -25,22 +25,22 @@ returns-in-Ok-clause-complete g c = λ bytes graph left short is acc read_rose w
 pub returns-in-Err-TooLong-clause-answered : goal.returns-in-Err-TooLong-clause-answered
 returns-in-Err-TooLong-clause-answered g c = λ bytes verdict left is.
     by_verdict c.args.ends c.args.all bytes (g.K.Sink.state c.args.sink.now) (g.K.Sink.state c.put_too_long.new.sink) c.put_too_long.result
-    (long_answered c.args.ends c.args.all _ _ (g.K.Sink.state c.args.sink.now) (g.K.Sink.state c.put_too_long.new.sink) c.put_too_long.result (c.in-Err-TooLong.ensures.too_long (ap (λ e. Err e) c.in-Err-TooLong.field-0-is)) c.put_too_long.ensures bytes left) verdict is
+    (long_answered c.args.ends c.args.all _ (g.K.Sink.state c.args.sink.now) (g.K.Sink.state c.put_too_long.new.sink) c.put_too_long.result (λ xs old. c.in-Err-TooLong.ensures.was_long xs old (ap (λ e. Err e) c.in-Err-TooLong.field-0-is)) c.put_too_long.ensures bytes left) verdict is
 
 pub returns-in-Err-TooLong-clause-too_long : goal.returns-in-Err-TooLong-clause-too_long
 returns-in-Err-TooLong-clause-too_long g c = λ is bytes left.
     too_long c.args.ends c.args.all bytes (g.K.Sink.state c.args.sink.now) (g.K.Sink.state c.put_too_long.new.sink) c.put_too_long.result
-    (long_answered c.args.ends c.args.all _ _ (g.K.Sink.state c.args.sink.now) (g.K.Sink.state c.put_too_long.new.sink) c.put_too_long.result (c.in-Err-TooLong.ensures.too_long (ap (λ e. Err e) c.in-Err-TooLong.field-0-is)) c.put_too_long.ensures bytes left) is
+    (long_answered c.args.ends c.args.all _ (g.K.Sink.state c.args.sink.now) (g.K.Sink.state c.put_too_long.new.sink) c.put_too_long.result (λ xs old. c.in-Err-TooLong.ensures.was_long xs old (ap (λ e. Err e) c.in-Err-TooLong.field-0-is)) c.put_too_long.ensures bytes left) is
 
 pub returns-in-Err-TooLong-clause-cut_off : goal.returns-in-Err-TooLong-clause-cut_off
 returns-in-Err-TooLong-clause-cut_off g c = λ is bytes left.
     broken_off c.args.ends c.args.all bytes (g.K.Sink.state c.args.sink.now) (g.K.Sink.state c.put_too_long.new.sink) c.put_too_long.result
-    (long_answered c.args.ends c.args.all _ _ (g.K.Sink.state c.args.sink.now) (g.K.Sink.state c.put_too_long.new.sink) c.put_too_long.result (c.in-Err-TooLong.ensures.too_long (ap (λ e. Err e) c.in-Err-TooLong.field-0-is)) c.put_too_long.ensures bytes left) is
+    (long_answered c.args.ends c.args.all _ (g.K.Sink.state c.args.sink.now) (g.K.Sink.state c.put_too_long.new.sink) c.put_too_long.result (λ xs old. c.in-Err-TooLong.ensures.was_long xs old (ap (λ e. Err e) c.in-Err-TooLong.field-0-is)) c.put_too_long.ensures bytes left) is
 
 pub returns-in-Err-TooLong-clause-complete : goal.returns-in-Err-TooLong-clause-complete
 returns-in-Err-TooLong-clause-complete g c = λ bytes graph left short is acc read_rose write_rose.
     complete c.args.ends c.args.all bytes (g.K.Sink.state c.args.sink.now) (g.K.Sink.state c.put_too_long.new.sink) c.put_too_long.result
-    (long_answered c.args.ends c.args.all _ _ (g.K.Sink.state c.args.sink.now) (g.K.Sink.state c.put_too_long.new.sink) c.put_too_long.result (c.in-Err-TooLong.ensures.too_long (ap (λ e. Err e) c.in-Err-TooLong.field-0-is)) c.put_too_long.ensures bytes left) (c.bytes_have_one_reading.ensures bytes) short graph is acc write_rose
+    (long_answered c.args.ends c.args.all _ (g.K.Sink.state c.args.sink.now) (g.K.Sink.state c.put_too_long.new.sink) c.put_too_long.result (λ xs old. c.in-Err-TooLong.ensures.was_long xs old (ap (λ e. Err e) c.in-Err-TooLong.field-0-is)) c.put_too_long.ensures bytes left) (c.bytes_have_one_reading.ensures bytes) short graph is acc write_rose
 
 pub returns-in-Ok-clause-read_fault : goal.returns-in-Ok-clause-read_fault
 returns-in-Ok-clause-read_fault g c = λ is. absurd (read_fault_never c.args.ends c.args.all c.as_slice.result.now (g.K.Sink.state c.args.sink.now) (g.K.Sink.state c.answer.new.sink) c.answer.result c.answer.ensures.answered is)

@@ -1,4 +1,4 @@
-use Rattle.std.proofs.Common.{◌≡◌, ◌<◌, ◌++◌, [], ◌∷◌, not, length, sym, ◌∙◌, subst, rules, arith}
+use Rattle.std.proofs.Common.{◌≡◌, ◌<◌, ◌++◌, [], ◌∷◌, not, cond, length, sym, ◌∙◌, ap, subst, rules, arith}
 use Rattle.std.specs.Prelude.{Some, slice_get}
 use Rattle.std.proofs.lemmas.Option.{slice_get_within}
 use Rattle.basics.proofs.ListFacts.{got_contains}
@@ -19,8 +19,8 @@ loop-k-preserved c =
     let within : c.loop-k.k < length (accesses f n) = slice_get_within (accesses f n) c.loop-k.k c.in-Some.access at in
     record {
       few_left = omega arith;
-      large = part_kept f c.args.commute n is_large (accesses f n) c.loop-k.k c.in-Some.access c.in_ok-part.part c.loop-k.large.items c.keep_part.new.large.items at part c.loop-k.invariant.large c.in_ok-keep_part.ensures.large;
-      few = part_kept f c.args.commute n (λ p. not (is_large p)) (accesses f n) c.loop-k.k c.in-Some.access c.in_ok-part.part c.loop-k.few.items c.keep_part.new.few.items at part c.loop-k.invariant.few (c.in_ok-keep_part.ensures.few ∙ cond_not f c.args.commute (is_large c.in_ok-part.part) c.loop-k.few.items (c.loop-k.few.items ++ c.in_ok-part.part ∷ []));
+      large = part_kept f c.args.commute n (is_large f.format) (accesses f n) c.loop-k.k c.in-Some.access c.in_ok-part.part c.loop-k.large.items c.keep_part.new.large.items at part c.loop-k.invariant.large (c.in_ok-keep_part.ensures.large ∙ ap (λ fm. cond (is_large fm c.in_ok-part.part) (c.loop-k.large.items ++ c.in_ok-part.part ∷ []) c.loop-k.large.items) c.format.ensures);
+      few = part_kept f c.args.commute n (λ p. not (is_large f.format p)) (accesses f n) c.loop-k.k c.in-Some.access c.in_ok-part.part c.loop-k.few.items c.keep_part.new.few.items at part c.loop-k.invariant.few (c.in_ok-keep_part.ensures.few ∙ (ap (λ fm. cond (is_large fm c.in_ok-part.part) c.loop-k.few.items (c.loop-k.few.items ++ c.in_ok-part.part ∷ [])) c.format.ensures ∙ cond_not f c.args.commute (is_large f.format c.in_ok-part.part) c.loop-k.few.items (c.loop-k.few.items ++ c.in_ok-part.part ∷ [])));
     }
 
 pub asked_by-requires-clause-column : goal.asked_by-requires-clause-column

@@ -8,6 +8,6 @@ use Rattle.flow_order.proofs.sources.parts_by_access.Given as goal
 abbrev pub invariant-loop-k : goal.invariant-loop-k
 invariant-loop-k l = record {
   few_left : l.k ≤ length (accesses l.flow l.line);
-  large : l.large.items ≡ filter is_large (parts_at l.flow l.commute l.line (take l.k (accesses l.flow l.line)));
-  few : l.few.items ≡ filter (λ p. not (is_large p)) (parts_at l.flow l.commute l.line (take l.k (accesses l.flow l.line)));
+  large : l.large.items ≡ filter (is_large l.flow.format) (parts_at l.flow l.commute l.line (take l.k (accesses l.flow l.line)));
+  few : l.few.items ≡ filter (λ p. not (is_large l.flow.format p)) (parts_at l.flow l.commute l.line (take l.k (accesses l.flow l.line)));
 }

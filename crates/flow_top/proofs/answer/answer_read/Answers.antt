@@ -1,5 +1,6 @@
 use Rattle.std.proofs.Common.{◌≡◌, ℕ, ◌+◌, ◌<◌, Bool, false, length, ◌∙◌, subst, inr, arith}
 use Rattle.std.proofs.lemmas.Result.{IfOk-weaker, IfErr-weaker}
+use Rattle.graph_terms.specs.Limits.{limits}
 use Rattle.graph_terms.specs.Graph.{GraphValue}
 use Rattle.graph_words.specs.Text.{text, GraphText}
 use Rattle.task_flow.specs.Construction.{is_over, written}
@@ -10,7 +11,8 @@ use Rattle.flow_top.specs.declared.FlowFault.TheVariants as fault
 use Rattle.flow_top.proofs.answer.answer_read.Goals as goal
 
 at_end : (f g : GraphValue) (commute : Bool) (end : ℕ) (e : FlowFault) → g ≡ written f commute → ((j : ℕ) → j < length f.lines → is_over f commute j ≡ false) → end ≡ length f.decls + length f.lines + 2 → IsTooLong g end e → IsFaultOfFlow f commute e
-at_end f g commute end (fault.Line n w) is within at h = inr (record { within = within; too_long = subst (λ x. 1048576 < length (text x)) is h.0; number_is = h.1 ∙ at; reason_is = h.2 })
+unfolding written
+at_end f g commute end (fault.Line n w) is within at h = inr (record { within = within; too_long = subst (λ (x : GraphValue). (limits x.format).text < length (text x)) is h.0; number_is = h.1 ∙ at; reason_is = h.2 })
 at_end f g commute end fault.NoMemory is within at h = tt
 
 pub text_within-requires : goal.text_within-requires

@@ -1,5 +1,7 @@
-use Rattle.std.proofs.Common.{sym, ◌∙◌, ap, arith}
+use Rattle.std.proofs.Common.{◌≡◌, sym, ◌∙◌, ap, arith}
 use Rattle.std.specs.Str.{bytes_eq}
+use Rattle.graph_terms.specs.declared.limits.Limits.{Limits}
+use Rattle.graph_terms.specs.Limits.{limits}
 use Rattle.graph_terms.specs.Fits.{repeats}
 use Rattle.graph_reader.proofs.DeclFaults.{inst_unlike, inst_ok, inst_many}
 use Rattle.graph_reader.proofs.decls.read_named.Goals as goal
@@ -7,8 +9,10 @@ use Rattle.graph_reader.proofs.decls.read_named.Goals as goal
 pub returns-in_default : goal.returns-in_default
 returns-in_default c = inst_unlike c.args.graph.now c.args.name c.args.space_word.now c.args.fields.items (ap (repeats bytes_eq) (sym c.deref.ensures.value) ∙ (sym c.in-Ok-false.ensures ∙ c.in-Ok-false.field-0-test)) (c.look_up.ensures.found.used ∙ c.if-is_none.ensures) (sym c.in_default.ensures)
 
-pub returns-then-len-gt256 : goal.returns-then-len-gt256
-returns-then-len-gt256 c = inst_many c.args.graph.now c.args.name c.args.space_word.now c.args.fields.items c.in-Some.space c.requires.new (ap (repeats bytes_eq) (sym c.deref.ensures.value) ∙ (sym c.in-Ok-false.ensures ∙ c.in-Ok-false.field-0-test)) (c.look_up.ensures.found.used ∙ c.if-is_none.ensures) (sym c.in-Some.ensures) (omega arith)
+pub returns-then-len-of : goal.returns-then-len-of
+returns-then-len-of c =
+    let m : (c.of.result).columns ≡ (limits (c.args.graph.now).format).columns = ap (λ (x : Limits). x.columns) (c.of.ensures ∙ ap limits c.format.ensures) in
+    inst_many c.args.graph.now c.args.name c.args.space_word.now c.args.fields.items c.in-Some.space c.requires.new (ap (repeats bytes_eq) (sym c.deref.ensures.value) ∙ (sym c.in-Ok-false.ensures ∙ c.in-Ok-false.field-0-test)) (c.look_up.ensures.found.used ∙ c.if-is_none.ensures) (sym c.in-Some.ensures) (omega arith)
 
 pub returns : goal.returns
 returns c = inst_ok c.args.graph.now c.args.name c.args.space_word.now c.args.fields.items c.in-Some.space c.fitting_decl.result (ap (repeats bytes_eq) (sym c.deref.ensures.value) ∙ (sym c.in-Ok-false.ensures ∙ c.in-Ok-false.field-0-test)) (c.look_up.ensures.found.used ∙ c.if-is_none.ensures) (sym c.in-Some.ensures) c.fitting_decl.ensures

@@ -27,7 +27,7 @@ loop-i-preserved c =
       twice = any_next (λ (p : Placed). twice c.args.graph.now p.0 p.1) c.loop-i.faults.twice c.with-faults.result.twice c.see-seen.result.faults.twice ps i _ c.loop-i.invariant.twice next (c.see-seen.ensures.twice ∙ ap (λ w. twice c.args.graph.now (as_place place) w) c.word.ensures) c.with-faults.ensures.twice;
       unknown = any_next (λ (p : Placed). unknown c.args.graph.now p.0 p.1) c.loop-i.faults.unknown c.with-faults.result.unknown c.see-seen.result.faults.unknown ps i _ c.loop-i.invariant.unknown next (c.see-seen.ensures.unknown ∙ ap (λ w. unknown c.args.graph.now (as_place place) w) c.word.ensures) c.with-faults.ensures.unknown;
       unlike = any_next (λ (p : Placed). unlike c.args.graph.now p.0 p.1) c.loop-i.faults.unlike c.with-faults.result.unlike c.see-seen.result.faults.unlike ps i _ c.loop-i.invariant.unlike next (c.see-seen.ensures.unlike ∙ ap (λ w. unlike c.args.graph.now (as_place place) w) c.word.ensures) c.with-faults.ensures.unlike;
-      misnumbered = any_next (λ (p : Placed). misnumbered p.0 p.1) c.loop-i.faults.misnumbered c.with-faults.result.misnumbered c.see-seen.result.faults.misnumbered ps i _ c.loop-i.invariant.misnumbered next (c.see-seen.ensures.misnumbered ∙ ap (λ w. misnumbered (as_place place) w) c.word.ensures) c.with-faults.ensures.misnumbered;
+      misnumbered = any_next (λ (p : Placed). misnumbered (c.args.graph.now).format p.0 p.1) c.loop-i.faults.misnumbered c.with-faults.result.misnumbered c.see-seen.result.faults.misnumbered ps i _ c.loop-i.invariant.misnumbered next (c.see-seen.ensures.misnumbered ∙ ap (λ w. misnumbered (c.args.graph.now).format (as_place place) w) c.word.ensures) c.with-faults.ensures.misnumbered;
     }
 
 pub returns : goal.returns
@@ -41,6 +41,6 @@ returns c =
         twice = any_end (λ (p : Placed). twice c.args.graph.now p.0 p.1) c.loop-i.faults.twice _ c.loop-i.i c.loop-i.invariant.twice over;
         unknown = any_end (λ (p : Placed). unknown c.args.graph.now p.0 p.1) c.loop-i.faults.unknown _ c.loop-i.i c.loop-i.invariant.unknown over;
         unlike = any_end (λ (p : Placed). unlike c.args.graph.now p.0 p.1) c.loop-i.faults.unlike _ c.loop-i.i c.loop-i.invariant.unlike over;
-        misnumbered = any_end (λ (p : Placed). misnumbered p.0 p.1) c.loop-i.faults.misnumbered _ c.loop-i.i c.loop-i.invariant.misnumbered over;
+        misnumbered = any_end (λ (p : Placed). misnumbered (c.args.graph.now).format p.0 p.1) c.loop-i.faults.misnumbered _ c.loop-i.i c.loop-i.invariant.misnumbered over;
       };
     }

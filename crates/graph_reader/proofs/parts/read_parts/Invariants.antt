@@ -19,5 +19,5 @@ invariant-loop-i l = record {
   twice : AnySoFar (λ (p : Placed). twice l.graph p.0 p.1) l.faults.twice (words_in l.places (contents l.words)) l.i;
   unknown : AnySoFar (λ (p : Placed). unknown l.graph p.0 p.1) l.faults.unknown (words_in l.places (contents l.words)) l.i;
   unlike : AnySoFar (λ (p : Placed). unlike l.graph p.0 p.1) l.faults.unlike (words_in l.places (contents l.words)) l.i;
-  misnumbered : AnySoFar (λ (p : Placed). misnumbered p.0 p.1) l.faults.misnumbered (words_in l.places (contents l.words)) l.i;
+  misnumbered : AnySoFar (λ (p : Placed). misnumbered l.graph.format p.0 p.1) l.faults.misnumbered (words_in l.places (contents l.words)) l.i;
 }

@@ -16,4 +16,4 @@ pub returns-in-Shared : goal.returns-in-Shared
 returns-in-Shared c = subst (λ p. Tells c.args.graph.now (as_place p) c.args.word.now c.see_fixed-in-Shared.result) (sym c.in-Shared.is) (c.see_fixed-in-Shared.ensures.shared c.args.graph.now c.args.word.now)
 
 pub returns-in-Weight : goal.returns-in-Weight
-returns-in-Weight c = subst (λ p. Tells c.args.graph.now (as_place p) c.args.word.now c.see_weight.result) (sym c.in-Weight.is) (c.see_weight.ensures c.args.graph.now)
+returns-in-Weight c = subst (λ p. Tells c.args.graph.now (as_place p) c.args.word.now c.see_weight.result) (sym c.in-Weight.is) c.see_weight.ensures

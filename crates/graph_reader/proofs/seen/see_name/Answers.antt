@@ -11,7 +11,7 @@ is_alike-requires c = found_below c.args.graph.now c.args.word.now c.look_up-mis
 
 pub returns : goal.returns
 returns c =
-    let plain = name_plain c.args.place c.args.word.now c.requires in
+    let plain = name_plain (c.args.graph.now).format c.args.place c.args.word.now c.requires in
     record {
       misnamed = c.look_up-misnamed.ensures.misnamed ∙ misnamed_is (c.args.graph.now).format c.args.place c.args.word.now c.requires;
       twice = c.is_twice.ensures ∙ twice_is c.args.graph.now c.args.word.now c.look_up-misnamed.result.found c.look_up-misnamed.ensures.found c.args.place c.requires;

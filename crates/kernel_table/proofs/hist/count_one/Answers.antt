@@ -10,4 +10,4 @@ returns c =
     let some : 0 < space_size c.args.bins.now = omega (arith, size, c.size.ensures.at_least) in
     counted_one c.cells_are_written.ensures c.point_of_rank.ensures c.rank_of_point.ensures c.args.over.now c.args.bins.now cells c.args.number c.unwrap-place.result
     c.intervals-2.ensures.is_space c.intervals.ensures.is_space c.requires.within c.requires.full some
-    (rw c.unwrap-place.ensures at c.rank.ensures.rank ∙ ap (rank c.args.over.now) (c.point.ensures ∙ ap (λ n. point_at c.args.bins.now (c.args.number % n)) (c.from.ensures ∙ size)))
+    (rw c.unwrap-place.ensures at c.rank.ensures.rank ∙ ap (rank c.args.over.now) (c.point.ensures ∙ ap (λ n. point_at c.args.bins.now (c.args.number % n)) size))

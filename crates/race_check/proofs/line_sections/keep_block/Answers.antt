@@ -34,7 +34,7 @@ loop-line-preserved c =
     let end = c.min.result in
     let xs = c.as_slice.result.now in
     let size = ap length c.as_slice.ensures.value in
-    let e = c.keep_all.ensures in
+    let e = c.in_ok-keep_all.ensures in
     let inv = c.loop-line.invariant in
     record {
       held = e.held;

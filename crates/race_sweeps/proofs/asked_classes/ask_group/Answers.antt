@@ -20,20 +20,6 @@ ask-requires-clause-class c =
     let known = c.requires.near c.args.group.class d (near_read near c.args.group.class c.index.result.now c.as_slice-near.result.now c.loop-other.other-index (omega (arith, c.requires.group, c.requires.lists)) c.index.ensures c.as_slice-near.ensures.value c.loop-other-test.true) in
     omega (arith, known, c.requires.hard)
 
-pub ask-requires-clause-firsts : goal.ask-requires-clause-firsts
-ask-requires-clause-firsts c =
-    let near = c.args.table.now.near.items in
-    let d = slice_index c.as_slice-near.result.now c.loop-other.other-index in
-    let known = c.requires.near c.args.group.class d (near_read near c.args.group.class c.index.result.now c.as_slice-near.result.now c.loop-other.other-index (omega (arith, c.requires.group, c.requires.lists)) c.index.ensures c.as_slice-near.ensures.value c.loop-other-test.true) in
-    omega (arith, known, c.requires.listed.1.firsts)
-
-pub ask-requires-clause-lasts : goal.ask-requires-clause-lasts
-ask-requires-clause-lasts c =
-    let near = c.args.table.now.near.items in
-    let d = slice_index c.as_slice-near.result.now c.loop-other.other-index in
-    let known = c.requires.near c.args.group.class d (near_read near c.args.group.class c.index.result.now c.as_slice-near.result.now c.loop-other.other-index (omega (arith, c.requires.group, c.requires.lists)) c.index.ensures c.as_slice-near.ensures.value c.loop-other-test.true) in
-    omega (arith, known, c.requires.listed.1.lasts)
-
 pub loop-other-preserved : goal.loop-other-preserved
 loop-other-preserved c =
     let t = c.args.table.now in

@@ -1,9 +1,9 @@
-use Rattle.std.proofs.Common.{◌≡◌, ◌*◌, length}
+use Rattle.std.proofs.Common.{◌<◌, length}
 use Rattle.race_sweeps.specs.Classes.{AreClassesTo}
 use Rattle.race_sweeps.proofs.classes.classes_of_lines.Given as goal
 
-abbrev pub invariant-loop-line : goal.invariant-loop-line
-invariant-loop-line l = record {
-  heads : length l.classing.heads.items ≡ 16384;
-  classes : AreClassesTo l.graph l.order l.classing.classes.keys.items l.classing.classes.of.items (3 * l.line-index);
+abbrev pub invariant-loop-place : goal.invariant-loop-place
+invariant-loop-place l = record {
+  heads : 0 < length l.classing.heads.items;
+  classes : AreClassesTo l.graph l.order l.classing.classes.keys.items l.classing.classes.of.items l.classing.classes.sites.items l.classing.classes.begins.items l.place 0;
 }

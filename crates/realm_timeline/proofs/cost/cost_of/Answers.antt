@@ -11,8 +11,8 @@ space-requires c =
     (got_contains (accesses c.args.graph.now c.args.line) c.loop-k.k c.in-Some.access (sym c.access.ensures ∙ c.in-Some.is))).space
 
 pub loop-k-preserved : goal.loop-k-preserved
-loop-k-preserved c = cost_more c.args.graph.now c.args.line c.loop-k.k c.loop-k.cost c.from-cost.result c.in-Some.access c.loop-k.invariant (sym c.access.ensures ∙ c.in-Some.is)
-    (c.from-cost.ensures ∙ (c.size.ensures.size ∙ ap space_size c.space.ensures)) (omega (arith, c.size.ensures.at_most, c.from-cost.ensures))
+loop-k-preserved c = cost_more c.args.graph.now c.args.line c.loop-k.k c.loop-k.cost c.size-cost.result c.in-Some.access c.loop-k.invariant (sym c.access.ensures ∙ c.in-Some.is)
+    (c.size-cost.ensures.size ∙ ap space_size c.space.ensures) c.size-cost.ensures.at_most
 
 pub returns-in_default-clause-cost : goal.returns-in_default-clause-cost
 returns-in_default-clause-cost c = cost_whole c.args.graph.now c.args.line c.loop-k.k c.loop-k.cost c.loop-k.invariant (no_more (accesses c.args.graph.now c.args.line) c.loop-k.k (sym c.access.ensures ∙ c.in_default.is))

@@ -1,8 +1,7 @@
-use Rattle.std.proofs.Common.{ap}
 use Rattle.std.specs.Prelude.{codes}
 use Rattle.explain_text.specs.Lines.{numbered}
 use Rattle.refusal_text.specs.Refused.{refused_two, shared_text, meeting_text, advice_text}
-use Rattle.explain_text.proofs.Public.{put_as, then_puts}
+use Rattle.explain_text.proofs.Public.{then_puts}
 use Rattle.refusal_text.proofs.conflict.put_conflict.Goals as goal
 
 pub returns : goal.returns
@@ -16,5 +15,5 @@ returns c =
     (then_puts r _ _ _ (shared_text g ls c.args.reason.now.race.shared c.args.reason.now.first c.args.reason.now.second) _ c.in_ok-put_shared.ensures
     (then_puts r _ _ _ (codes "neither waits for the other\n") _ c.in_ok-put.ensures
     (then_puts r _ _ _ (meeting_text g ls c.args.reason.now.race.meeting) _ c.in_ok-put_meeting.ensures
-    (then_puts r _ _ _ _ _ (put_as _ _ _ _ (ap (advice_text g ls c.args.reason.now.first c.args.reason.now.second) c.as_slice.ensures.value) c.in_ok-put_advice.ensures)
+    (then_puts r _ _ _ (advice_text g ls c.args.reason.now.advice) _ c.in_ok-put_advice.ensures
     c.put_sections.ensures)))))))

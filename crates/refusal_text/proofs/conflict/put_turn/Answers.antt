@@ -7,14 +7,7 @@ pub returns : goal.returns
 returns c =
     let g = c.args.graph.now in
     let ls = c.args.lines.now in
-    let r = c.put-6.result in
-    (then_puts r _ _ _ (by_number g ls c.args.one) _ c.in_ok-put_by_number.ensures
+    let r = c.put-2.result in
+    then_puts r _ _ _ (by_number g ls c.args.one) _ c.in_ok-put_by_number.ensures
     (then_puts r _ _ _ (codes " and ") _ c.in_ok-put.ensures
-    (then_puts r _ _ _ (by_number g ls c.args.other) _ c.in_ok-put_by_number-2.ensures
-    (then_puts r _ _ _ (codes " acquire one reservation: it keeps their sections apart, and does not order them\n") _ c.in_ok-put-2.ensures
-    (then_puts r _ _ _ (codes "to order them, put ") _ c.in_ok-put-3.ensures
-    (then_puts r _ _ _ (by_number g ls c.args.other) _ c.in_ok-put_by_number-3.ensures
-    (then_puts r _ _ _ (codes " on the release of ") _ c.in_ok-put-4.ensures
-    (then_puts r _ _ _ (by_number g ls c.args.one) _ c.in_ok-put_by_number-4.ensures
-    (then_puts r _ _ _ (codes ", where that does not wait for ") _ c.in_ok-put-5.ensures
-    (then_puts r _ _ _ (by_number g ls c.args.other) (codes "\n") c.in_ok-put_by_number-5.ensures c.put-6.ensures))))))))))
+    (then_puts r _ _ _ (by_number g ls c.args.other) (codes " acquire one reservation: it keeps their sections apart, and does not order them\n") c.in_ok-put_by_number-2.ensures c.put-2.ensures))

@@ -7,5 +7,5 @@ use Rattle.refused_words.proofs.declared.cell_count.Given as goal
 abbrev pub invariant-loop-c : goal.invariant-loop-c
 invariant-loop-c l = record {
   count : l.count ≡ sum_by (column_cells l.graph) (take l.c (columns l.graph));
-  few : l.count ≤ 4294967295 * l.c;
+  few : l.count ≤ 4294967296 * l.c;
 }

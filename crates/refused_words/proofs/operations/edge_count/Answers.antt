@@ -11,7 +11,7 @@ overflow_add-count c =
     let here : length c.edges_into.result.now ≡ entering_line g n = ap length c.edges_into.ensures in
     let next : below (entering_line g) (n + 1) ≡ below (entering_line g) n + entering_line g n = below_next (entering_line g) n in
     let inside : n + 1 ≤ length g.lines = omega (arith, c.loop-line-test.true, c.lines-line-end.ensures.number) in
-    let few : below (entering_line g) (n + 1) ≤ 65536 = edges_so_far g c.lines-line-end.ensures.is_graph (λ e has. (c.edges_between_lines.ensures g e c.lines-line-end.ensures.is_graph has).1) (n + 1) inside in
+    let few : below (entering_line g) (n + 1) ≤ 524288 = edges_so_far g c.lines-line-end.ensures.is_graph (λ e has. (c.edges_between_lines.ensures g e c.lines-line-end.ensures.is_graph has).1) (n + 1) inside in
     omega arith
 
 pub loop-line-preserved : goal.loop-line-preserved
@@ -36,5 +36,5 @@ returns-clause-few c =
     let n = c.loop-line.line in
     let inside : n ≤ length g.lines = omega (arith, c.loop-line-test.false, c.lines-line-end.ensures.number, c.loop-line.auto.line-end) in
     let before : c.loop-line.count ≡ below (entering_line g) n = c.loop-line.invariant in
-    let few : below (entering_line g) n ≤ 65536 = edges_so_far g c.lines-line-end.ensures.is_graph (λ e has. (c.edges_between_lines.ensures g e c.lines-line-end.ensures.is_graph has).1) n inside in
+    let few : below (entering_line g) n ≤ 524288 = edges_so_far g c.lines-line-end.ensures.is_graph (λ e has. (c.edges_between_lines.ensures g e c.lines-line-end.ensures.is_graph has).1) n inside in
     omega arith

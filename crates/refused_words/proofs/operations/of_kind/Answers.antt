@@ -13,5 +13,5 @@ returns c =
     let count : length c.on_events.result.now ≡ length (on_events (c.args.graph.now).format (form_of c.args.kind) ws) =
     sym (length-map c.on_events.result.now _) ∙ ap length (c.on_events.ensures ∙ ap (λ fm. on_events fm (form_of c.args.kind) ws) c.format.ensures) in
     λ name. ap (option_map quantity_value) c.first_above.ensures
-    ∙ (first_of (c.operations.result ∷ c.events-behind.result ∷ c.edges.result ∷ [])
-    ∙ kind_limit c.args.graph.now c.args.kind name ws c.edges_of_kind.result (length c.on_events.result.now) _ _ _ c.edges_of_kind.ensures.count count c.operations.ensures c.events-behind.ensures c.edges.ensures)
+    ∙ (first_of (c.operations.result ∷ c.events-behind.result ∷ c.edges.result ∷ c.spaces.result ∷ [])
+    ∙ kind_limit c.args.graph.now c.args.kind name ws c.edges_of_kind.result (length c.on_events.result.now) _ _ _ _ c.edges_of_kind.ensures.count count c.operations.ensures c.events-behind.ensures c.edges.ensures c.spaces.ensures)

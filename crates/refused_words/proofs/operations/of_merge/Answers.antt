@@ -13,4 +13,4 @@ returns c =
     let some : 2 ≤ length ws = omega arith in
     let count : length c.args.words.now - 1 ≡ length ws - 1 = omega arith in
     λ name ignores. ap (option_map quantity_value) c.first_above.ensures
-    ∙ (first_of (c.operations.result ∷ c.events-merged.result ∷ c.edges.result ∷ []) ∙ merge_limit c.args.graph.now name ignores ws (length c.args.words.now - 1) _ _ _ some count c.operations.ensures c.events-merged.ensures c.edges.ensures)
+    ∙ (first_of (c.operations.result ∷ c.events-merged.result ∷ c.edges.result ∷ c.spaces.result ∷ []) ∙ merge_limit c.args.graph.now name ignores ws (length c.args.words.now - 1) _ _ _ _ some count c.operations.ensures c.events-merged.ensures c.edges.ensures c.spaces.ensures)

@@ -1,4 +1,3 @@
-use Rattle.std.proofs.Common.{◌*◌, ◌≤◌}
 use Rattle.run_words.specs.Words.{IsAt}
 use Rattle.run_words.specs.Rejoined.{Rejoined}
 use Rattle.run_tests.proofs.word_tests.drive.Given as goal
@@ -7,5 +6,4 @@ abbrev pub invariant-loop-turn : goal.invariant-loop-turn
 invariant-loop-turn l = record {
   at : IsAt l.words l.seat;
   back : Rejoined l.initial.seat l.seat;
-  few : l.ended ≤ 8192 * l._turn;
 }

@@ -7,5 +7,5 @@ use Rattle.session_text.proofs.so_far.cell_count.Given as goal
 abbrev pub invariant-loop-c : goal.invariant-loop-c
 invariant-loop-c l = record {
   sum : l.cells ≡ sum_by (column_cells l.graph) (take l.c (columns l.graph));
-  few : l.cells ≤ 1048576 * l.c;
+  few : l.cells ≤ 4294967296 * l.c;
 }

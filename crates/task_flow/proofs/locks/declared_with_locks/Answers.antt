@@ -3,6 +3,7 @@ use Rattle.std.proofs.lemmas.Result.{err_from_is_err_and}
 use Rattle.task_flow.specs.declared.making.Stop.TheVariants.{Limit}
 use Rattle.task_flow.proofs.Growth.{err_same}
 use Rattle.task_flow.proofs.AddSteps.{none_declared, locks_declared, locks_free, locks_over, locks_some, number_few}
+use Rattle.task_flow.proofs.ContendSteps.{columns_few}
 use Rattle.task_flow.proofs.locks.declared_with_locks.Goals as goal
 
 pub returns-in_default-clause-ok : goal.returns-in_default-clause-ok
@@ -10,6 +11,9 @@ returns-in_default-clause-ok c = none_declared c.args.flow.now c.args.sections.n
 
 pub add_locks-requires-clause-first : goal.add_locks-requires-clause-first
 add_locks-requires-clause-first c = number_few c.args.flow.now c.in-Some.first (sym c.in-Some.is ∙ c.requires.numbers)
+
+pub add_locks-requires-clause-few : goal.add_locks-requires-clause-few
+add_locks-requires-clause-few c = columns_few c.args.flow.now c.args.sections.now c.requires.sections
 
 pub add_locks-requires-clause-free : goal.add_locks-requires-clause-free
 add_locks-requires-clause-free c = locks_free c.args.flow.now c.args.sections.now c.requires.sections c.in_ok-graph.graph c.in_ok-graph.ensures c.in-Some.first (sym c.in-Some.is ∙ c.requires.numbers)

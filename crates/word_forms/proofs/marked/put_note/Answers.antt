@@ -16,6 +16,6 @@ returns c =
     let before = length (take c.args.k (contents c.args.words.now)) in
     let all : length (contents front) ≡ length front = length-map front (λ (w : Bor (List ℕ)). w.now) in
     let size : length front ≡ before = sym all ∙ ap length c.front.ensures in
-    subst (λ s. OnOk r (new ≡ old ++ noted_text s before (note_of c.args.why s))) c.in_ok-slot.ensures
-    (subst (λ n. OnOk r (new ≡ old ++ noted_text slot n (note_of c.args.why slot))) size
+    subst (λ s. OnOk r (new ≡ old ++ noted_text s before (note_of c.args.format c.args.why s))) c.in_ok-slot.ensures
+    (subst (λ n. OnOk r (new ≡ old ++ noted_text slot n (note_of c.args.format c.args.why slot))) size
     (subst (λ m. OnOk r (new ≡ old ++ noted_text slot (length front) m)) c.note_of.ensures c.put_noted.ensures))

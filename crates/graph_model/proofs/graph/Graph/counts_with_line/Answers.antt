@@ -10,7 +10,7 @@ pub overflow_add-result-3 : goal.overflow_add-result-3
 overflow_add-result-3 c =
     let g : GraphValue = record { format = c.self.inside.format; decls = c.self.inside.decls.items; lines = c.self.inside.lines.items } in
     let now : c.self.inside.counts.edges ≡ length (edges g) = ap (λ (x : Counts). x.edges) c.self.invariant.counts in
-    let few : length (edges g) ≤ 65536 = c.self.invariant.limits.few_edges in
+    let few : length (edges g) ≤ 524288 = c.self.invariant.limits.few_edges in
     omega arith
 
 pub returns : goal.returns

@@ -17,7 +17,7 @@ use Rattle.graph_indexes.specs.Rows.{EndsBelow, NamesBelow, AddsRow, AreRowsOf}
 use Rattle.graph_indexes.specs.Counts.{counts_of}
 use Rattle.graph_terms.specs.Fits.{IsGraph, line_fault, with_line}
 use Rattle.graph_terms.proofs.Public.{push_line}
-use Rattle.graph_model.proofs.Naming.{names_back, names_line, unused_line_name}
+use Rattle.graph_model.proofs.Naming.{names_back, names_line, names_same, unused_line_name}
 use Rattle.graph_model.proofs.TableLaws.{limits_line}
 use Rattle.graph_model.proofs.RowLaws.{rows_push, from_below, to_below, names_below}
 use Rattle.graph_model.proofs.RowReads.{few_marked}
@@ -94,5 +94,20 @@ invariant_of-self-in-Err c =
       limits = subst (λ (ls : List Line). IsWithinLimits (record { format = g.format; decls = g.decls; lines = ls })) (sym same) c.self.invariant.limits;
       names = subst (λ (ls : List Line). AreNamesOf (record { format = g.format; decls = g.decls; lines = ls }) c.remove.new.self) (sym same) back;
       rows = subst (λ (ls : List Line). AreRowsOf (record { format = g.format; decls = g.decls; lines = ls }) c.add.new.self) (sym same) (subst (AreRowsOf g) (sym c.in-Err.ensures.err) c.self.invariant.rows);
+      counts = c.self.invariant.counts ∙ ap (λ ls. counts_of (record { format = g.format; decls = g.decls; lines = ls })) (sym same);
+    }
+
+pub invariant_of-self-in_err-insert : goal.invariant_of-self-in_err-insert
+invariant_of-self-in_err-insert c =
+    let g : GraphValue = record { format = c.self.inside.format; decls = c.self.inside.decls.items; lines = c.self.inside.lines.items } in
+    let same : c.reserve.new.items.items ≡ g.lines = c.reserve.ensures.items in
+    let kept : AreNamesOf g c.insert.new.self = names_same g c.self.inside.names c.insert.new.self c.self.invariant.names (λ q. c.in_err-insert.ensures.err q) in
+    record {
+      fits = subst (λ (ls : List Line). IsGraph (record { format = g.format; decls = g.decls; lines = ls })) (sym same) c.self.invariant.fits;
+      accesses = c.reserve-2.ensures.items ∙ (c.self.invariant.accesses ∙ ap (map (λ (x : Line). kept_accesses x.verb)) (sym same));
+      tables = c.self.invariant.tables;
+      limits = subst (λ (ls : List Line). IsWithinLimits (record { format = g.format; decls = g.decls; lines = ls })) (sym same) c.self.invariant.limits;
+      names = subst (λ (ls : List Line). AreNamesOf (record { format = g.format; decls = g.decls; lines = ls }) c.insert.new.self) (sym same) kept;
+      rows = subst (λ (ls : List Line). AreRowsOf (record { format = g.format; decls = g.decls; lines = ls }) c.self.inside.rows) (sym same) c.self.invariant.rows;
       counts = c.self.invariant.counts ∙ ap (λ ls. counts_of (record { format = g.format; decls = g.decls; lines = ls })) (sym same);
     }

@@ -10,7 +10,7 @@ count : (c : After-spaces) → c.spaces.result ≡ length (named_spaces (record 
 count c = c.spaces.ensures ∙ (ap (λ (t : TablesValue). length t.space_places) c.self.invariant.tables ∙ length-places space_of 0 c.self.inside.decls.items)
 
 pub overflow_cast-result : goal.overflow_cast-result
-overflow_cast-result c = let few : length (named_spaces (record { format = c.self.inside.format; decls = c.self.inside.decls.items; lines = c.self.inside.lines.items })) ≤ 1048576 = c.self.invariant.limits.few_spaces in omega (arith, count c)
+overflow_cast-result c = let few : length (named_spaces (record { format = c.self.inside.format; decls = c.self.inside.decls.items; lines = c.self.inside.lines.items })) ≤ 16777216 = c.self.invariant.limits.few_spaces in omega (arith, count c)
 
 pub returns : goal.returns
 returns c = subst (λ (x : GraphValue). c.spaces.result ≡ length (named_spaces x)) c.self.view_is (count c)

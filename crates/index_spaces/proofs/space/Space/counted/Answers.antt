@@ -4,21 +4,26 @@ use Rattle.index_spaces.specs.Space.{space_size}
 use Rattle.index_spaces.proofs.PointFacts.{runs_up, space_size-more, size_so_far, ranks_more}
 use Rattle.index_spaces.proofs.space.Space.counted.Goals as goal
 
-pub overflow_sub-size : goal.overflow_sub-size
-overflow_sub-size c = rw c.deref-interval-items.ensures.value (runs_up 0 _ c.loop-interval.interval-index (0, 0) c.requires.is_space.1 (omega arith)).0
+pub overflow_sub-interval : goal.overflow_sub-interval
+overflow_sub-interval c = rw c.deref-interval-items.ensures.value (runs_up 0 _ c.loop-interval.interval-index (0, 0) c.requires.is_space.1 (omega arith)).0
 
-pub overflow_add-size : goal.overflow_add-size
-overflow_add-size c =
-    let fits = size_so_far c.args.intervals.items c.loop-interval.interval-index (omega arith) in
-    rw c.deref-interval-items.ensures.value (omega (arith, fits, c.requires.few))
+pub overflow_cast-size : goal.overflow_cast-size
+overflow_cast-size c =
+    let k = c.loop-interval.interval-index in
+    let s = c.args.intervals.items in
+    let within : k < length s = omega arith in
+    let fits = size_so_far s k within in
+    let up = runs_up 0 s k (0, 0) c.requires.is_space.1 within in
+    let so_far = c.loop-interval.invariant.size ∙ ap (λ t. space_size (take k t)) c.deref-interval-items.ensures.value in
+    omega (arith, fits, up, so_far, c.requires.few)
 
 pub overflow_add-size-in-loop-interval : goal.overflow_add-size-in-loop-interval
 overflow_add-size-in-loop-interval c =
     let k = c.loop-interval.interval-index in
-    let fits = size_so_far c.args.intervals.items k (omega arith) in
-    let up = runs_up 0 _ k (0, 0) c.requires.is_space.1 (omega arith) in
-    let so_far = c.loop-interval.invariant.size ∙ ap (λ s. space_size (take k s)) c.deref-interval-items.ensures.value in
-    rw c.deref-interval-items.ensures.value (omega (arith, fits, up, so_far, c.requires.few))
+    let s = c.args.intervals.items in
+    let fits = size_so_far s k (omega arith) in
+    let so_far = c.loop-interval.invariant.size ∙ ap (λ t. space_size (take k t)) c.deref-interval-items.ensures.value in
+    omega (arith, fits, so_far, c.requires.few)
 
 pub loop-interval-preserved : goal.loop-interval-preserved
 loop-interval-preserved c =

@@ -7,7 +7,7 @@ use Rattle.race_check.proofs.high_numbers.Flood.reach_from_all.Goals as goal
 pub loop-line-init : goal.loop-line-init
 loop-line-init c = record {
   within = omega arith;
-  flood = done_none c.args.graph.now c.args.self.now.marks.highs.items c.args.self.now.marks.stack.items c.args.self.now.noted.items c.lines-line.result c.lines-line.ensures.number c.requires;
+  flood = done_none c.args.graph.now c.args.self.now.marks.highs.items c.args.self.now.marks.stack.items c.args.self.now.noted.items c.lines-line.result c.lines-line.ensures.number c.requires.flood;
 }
 
 pub loop-line-preserved-in-Continue-1 : goal.loop-line-preserved-in-Continue-1

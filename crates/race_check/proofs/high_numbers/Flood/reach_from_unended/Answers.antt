@@ -6,7 +6,7 @@ use Rattle.race_check.proofs.high_numbers.Flood.reach_from_unended.Goals as goal
 use Rattle.race_check.proofs.high_numbers.Flood.reach_from_unended.Goals.{then-never_comes+in_ok-reach, else-never_comes}
 
 pub loop-line-init : goal.loop-line-init
-loop-line-init c = never_none c.args.graph.now _ _ _ c.requires
+loop-line-init c = never_none c.args.graph.now _ _ _ c.requires.flood
 
 pub loop-line-preserved : goal.loop-line-preserved
 loop-line-preserved c =

@@ -1,27 +1,24 @@
-use Rattle.std.proofs.Common.{◌≡◌, ◌+◌, length, sym, subst, ◌∙◌, arith}
-use Rattle.std.proofs.lemmas.Bool.{true≢false}
-use Rattle.race_check.specs.declared.high_numbers.Marks.{Marks}
+use Rattle.std.proofs.Common.{length, refl, arith, subst}
+use Rattle.std.specs.Prelude.{Contains}
+use Rattle.std.proofs.lemmas.Option.{slice_get_read}
+use Rattle.std.proofs.lemmas.Result.{on_ok_weaker}
 use Rattle.race_check.specs.High.{IsMarking}
-use Rattle.race_check.proofs.FloodMarks.{IsAcquireBelow, acquires_more, acquires_skip, acquires_done}
+use Rattle.race_check.proofs.FloodMarks.{acquires_marked, acquires_known}
 use Rattle.race_check.proofs.high_numbers.Marks.mark_acquires.Goals as goal
-use Rattle.race_check.proofs.high_numbers.Marks.mark_acquires.Goals.{then-acquires+in_ok-mark, else-acquires}
 
-pub loop-line-preserved : goal.loop-line-preserved
-loop-line-preserved c =
-    let g = c.args.graph.now in
-    let old = c.args.self.now in
-    let mid = c.loop-line.self in
-    elim c.if-acquires.branch [
-      | then-acquires+in_ok-mark w ↦ subst (λ (s : Marks). IsMarking (IsAcquireBelow g c.args.lock (c.loop-line.line + 1)) c.args.mark old.highs.items old.stack.items s.highs.items s.stack.items) (sym w.self-is)
-          (acquires_more g c.args.lock c.loop-line.line c.args.mark old.highs.items old.stack.items mid.highs.items mid.stack.items w.mark.new.self.highs.items w.mark.new.self.stack.items
-          (sym c.acquires.ensures ∙ w.if-acquires.true) c.loop-line.invariant w.in_ok-mark.ensures)
-      | else-acquires w ↦ subst (λ (s : Marks). IsMarking (IsAcquireBelow g c.args.lock (c.loop-line.line + 1)) c.args.mark old.highs.items old.stack.items s.highs.items s.stack.items) (sym w.self-is)
-          (acquires_skip g c.args.lock c.loop-line.line c.args.mark old.highs.items old.stack.items mid.highs.items mid.stack.items
-          (λ a. true≢false (sym a ∙ (sym c.acquires.ensures ∙ w.if-acquires.false))) c.loop-line.invariant)
-    ]
+pub mark_all-requires-clause-known : goal.mark_all-requires-clause-known
+mark_all-requires-clause-known c i h =
+    let lists = c.args.acquires.now in
+    let at = slice_get_read lists (length lists) c.args.lock c.index-acquires-lock.result refl (omega (arith, c.requires.lists.count, c.requires.lock)) c.index-acquires-lock.is in
+    let known = acquires_known c.args.graph.now lists c.args.lock c.index-acquires-lock.result c.requires.lists at i (subst (λ xs. Contains xs i) c.as_slice.ensures.value h) in
+    omega (arith, known, c.requires.size)
 
 pub returns : goal.returns
 returns c =
-    let g = c.args.graph.now in
-    let all : c.loop-line.line ≡ length g.lines = omega arith in
-    acquires_done g c.args.lock c.args.mark _ _ _ _ (subst (λ n. IsMarking (IsAcquireBelow g c.args.lock n) c.args.mark c.args.self.now.highs.items c.args.self.now.stack.items c.loop-line.self.highs.items c.loop-line.self.stack.items) all c.loop-line.invariant)
+    let lists = c.args.acquires.now in
+    let old = c.args.self.now in
+    let new = c.mark_all.new.self in
+    let at = slice_get_read lists (length lists) c.args.lock c.index-acquires-lock.result refl (omega (arith, c.requires.lists.count, c.requires.lock)) c.index-acquires-lock.is in
+    on_ok_weaker c.mark_all.result
+    (λ marked. acquires_marked c.args.graph.now lists c.args.lock c.index-acquires-lock.result c.requires.lists at c.args.mark old.highs.items old.stack.items new.highs.items new.stack.items
+    (subst (λ xs. IsMarking (Contains xs) c.args.mark old.highs.items old.stack.items new.highs.items new.stack.items) c.as_slice.ensures.value marked)) c.mark_all.ensures

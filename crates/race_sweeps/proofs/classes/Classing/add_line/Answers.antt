@@ -1,13 +1,11 @@
-use Rattle.std.proofs.Common.{[], ◌∷◌, ◌++◌, arith, ap, ◌∙◌}
-use Rattle.race_sweeps.proofs.Classing.{classes_more}
+use Rattle.std.proofs.Common.{◌≡◌, ◌++◌, ◌∷◌, [], length, ◌∙◌, ap, arith}
+use Rattle.std.proofs.lemmas.Result.{on_ok_weaker}
+use Rattle.race_sweeps.proofs.Classing.{classes_next}
 use Rattle.race_sweeps.proofs.classes.Classing.add_line.Goals as goal
 
-pub loop-k-preserved : goal.loop-k-preserved
-loop-k-preserved c =
-    let e = c.in_ok-class.ensures in
-    record {
-      heads = e.heads;
-      few = omega (arith, e.few, c.loop-k.invariant.few);
-      classes = λ lines p in' at t. classes_more c.args.graph.now lines c.loop-k.self.classes.keys.items c.class_at.new.self.classes.keys.items c.loop-k.self.classes.of.items c.push.new.items.items p c.loop-k.k c.args.line c.in_ok-class.class at c.loop-k-test.true
-          e.kept e.class e.below e.few (c.in_ok-push.ensures.ok ∙ ap (λ xs. xs ++ c.in_ok-class.class ∷ []) e.of) (c.loop-k.invariant.classes lines p in' at t);
-    }
+pub returns-clause-classes : goal.returns-clause-classes
+returns-clause-classes c =
+    let s = c.add_accesses.new.self.classes in
+    let all : c.len-end.result ≡ length s.of.items = omega (arith, c.len-end.ensures) in
+    on_ok_weaker c.push.result
+    (λ ok. classes_next c.args.graph.now c.args.order.now s.keys.items s.of.items s.sites.items s.begins.items c.args.place _ c.in_ok-add_accesses.ensures.classes (ok ∙ ap (λ n. s.begins.items ++ n ∷ []) all)) c.push.ensures.ok

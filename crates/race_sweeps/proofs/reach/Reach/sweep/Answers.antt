@@ -1,17 +1,16 @@
-use Rattle.std.proofs.Common.{◌-◌, arith}
-use Rattle.race_sweeps.proofs.Reaching.{reach_self}
+use Rattle.std.proofs.Common.{◌/◌, length, refl, subst, arith}
+use Rattle.race_sweeps.specs.Reach.{IsBounded}
+use Rattle.race_sweeps.proofs.Blocks.{bounded_marked}
+use Rattle.race_sweeps.proofs.Reaching.{reach_none}
 use Rattle.race_sweeps.proofs.reach.Reach.sweep.Goals as goal
 
-pub loop-place-preserved-then-word-ne0 : goal.loop-place-preserved-then-word-ne0
-loop-place-preserved-then-word-ne0 c =
-    let g = c.args.graph.now in
-    let lines = c.args.table.now.lines.items in
-    let words = c.loop-place.self.words.items in
+pub loop-block-init : goal.loop-block-init
+loop-block-init c =
+    let n = length c.args.table.now.lines.items in
+    let cleared = c.clear.new.self in
+    let b = subst (λ k. IsBounded k cleared) c.requires.bounded.size c.clear.ensures.bounded in
     record {
-      within = omega (arith, c.loop-place.invariant.within);
-      reach = c.pass.ensures.reach c.args.first c.loop-place.invariant.reach
-          (reach_self g lines words c.args.first (c.loop-place.place - 1) c.index.result.now c.own_bit.result c.loop-place.invariant.reach (omega (arith, c.loop-place.invariant.within, c.loop-place.invariant.reach.size, c.requires.end, c.loop-place-test.true)) c.index.ensures c.own_bit.ensures);
-      outside = c.pass.ensures.outside c.loop-place.invariant.outside;
-      low = c.loop-place.invariant.low;
-      high = c.loop-place.invariant.high;
+      within = omega arith;
+      bounded = bounded_marked n cleared _ (c.args.first / 64) b (omega (arith, b.blocks, c.requires.begins, c.requires.end)) refl refl;
+      reach = reach_none c.args.graph.now c.args.table.now.lines.items cleared.words.items c.args.first b.size c.clear.ensures.none;
     }

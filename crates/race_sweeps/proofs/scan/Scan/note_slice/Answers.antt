@@ -1,5 +1,5 @@
-use Rattle.std.proofs.Common.{◌*◌, length, sym, arith, subst}
-use Rattle.std.specs.Prelude.{Contains}
+use Rattle.std.proofs.Common.{length, sym, arith, subst}
+use Rattle.std.specs.Prelude.{Contains, slice_index}
 use Rattle.race_sweeps.specs.Marks.{AreMarksBelow}
 use Rattle.race_sweeps.specs.Scan.{IsMarkAsked}
 use Rattle.race_sweeps.proofs.Slices.{slice_answered}
@@ -29,6 +29,6 @@ returns-clause-answered c =
     let groups = c.list.new.groups.marks.items in
     let asks = c.ask_all.new.asks.marks.items in
     slice_answered c.args.graph.now t c.requires.table c.walk_all.new.racing.items hard groups asks c.args.first c.args.end c.requires.short c.requires.end c.requires.scanned.hard c.in_ok-targets.ensures.grouped
-    (λ m in'. subst (λ xs. IsMarkAsked t xs asks (3 * c.args.end) m) c.as_slice-2.ensures.value
-    (c.in_ok-stop.ensures.asked (3 * c.args.end) c.in_ok-targets.ensures.listed m (subst (λ xs. Contains xs m) (sym c.as_slice.ensures.value) in')))
-    (c.walk_all.ensures.walked (3 * c.args.end) c.in_ok-targets.ensures.listed)
+    (λ m in'. subst (λ xs. IsMarkAsked t xs asks (slice_index c.args.table.now.begins.items c.args.end) m) c.as_slice-2.ensures.value
+    (c.in_ok-stop.ensures.asked (slice_index c.args.table.now.begins.items c.args.end) c.in_ok-targets.ensures.listed m (subst (λ xs. Contains xs m) (sym c.as_slice.ensures.value) in')))
+    (c.walk_all.ensures.walked (slice_index c.args.table.now.begins.items c.args.end) c.in_ok-targets.ensures.listed)

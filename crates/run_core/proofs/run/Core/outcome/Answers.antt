@@ -29,7 +29,7 @@ pub invariant_of-result : goal.invariant_of-result
 invariant_of-result c =
     let small = trace_small _ c.self.inside.trace.items c.clock_is_small.ensures refl c.self.invariant.core in
     let lines : c.lines.result ≡ length c.self.inside.checked.now.graph.lines = c.lines.ensures.number ∙ ap (λ (g : GraphValue). length g.lines) c.graph-graph.ensures.graph in
-    let few : c.lines.result ≤ 8192 = c.lines.ensures.few in
+    let few : c.lines.result ≤ 65536 = c.lines.ensures.few in
     omega (arith, small, lines, few)
 
 pub returns-clause-outcome : goal.returns-clause-outcome

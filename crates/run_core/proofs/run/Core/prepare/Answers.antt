@@ -8,6 +8,7 @@ use Rattle.std.proofs.lemmas.List.{length-replicate}
 use Rattle.event_table.specs.EventMap.{fresh, unused}
 use Rattle.line_effects.specs.Homes.{all_home}
 use Rattle.run_state.specs.Start.{first_value}
+use Rattle.run_parts.specs.LineEvents.{last_gen_for}
 use Rattle.run_parts.specs.Room.{HasRoom}
 use Rattle.run_parts.specs.declared.progress.Progress.TheVariants.{Unissued}
 use Rattle.run_parts.specs.declared.locks.LockState.TheVariants.{Shared}
@@ -29,7 +30,7 @@ unissued_shown c =
     let e = c.graph-graph.ensures.graph in
     let n = c.lines-lines.ensures.number ∙ ap (λ (x : GraphValue). length x.lines) e in
     let stages = c.filled_within.ensures.items ∙ ap (λ k. replicate k Unissued) n in
-    let events = events_first c.of_free.result c.in_ok-room.room.handles.items c.in-Ok.table (fresh c.args.slots (length g.lines) 8191) c.of_free.ensures c.in_ok-room.ensures.empty.0 (c.in-Ok.ensures.map ∙ ap (λ k. fresh c.args.slots k 8191) n) in
+    let events = events_first c.of_free.result c.in_ok-room.room.handles.items c.in-Ok.table (fresh c.args.slots (length g.lines) (last_gen_for (length g.lines))) c.of_free.ensures c.in_ok-room.ensures.empty.0 (c.in-Ok.ensures.map ∙ (ap (λ k. fresh c.args.slots c.lines-lines.result k) c.last_gen_for.ensures ∙ ap (λ k. fresh c.args.slots k (last_gen_for k)) n)) in
     let homes = c.in_ok-homes.ensures ∙ ap (λ x. all_home x zero_cells) e in
     let takers = c.filled_within-2.ensures.items ∙ ap (λ k. replicate k 0) (c.columns-columns.ensures.number ∙ ap (λ x. length (columns x)) e) in
     let values = c.first_values.ensures ∙ ap (λ (x : GraphValue). map (first_value x) (numbers_below (length x.lines))) e in
@@ -37,7 +38,7 @@ unissued_shown c =
     shown_first g c.filled_within.result.items c.of_free.result c.in_ok-homes.homes c.filled_within-2.result.items c.first_values.result.items c.none.result.holding.items c.in_ok-room.room.trace.items c.args.slots stages events homes takers values holders c.in_ok-room.ensures.empty.1
 
 pub of_free-requires-clause-free : goal.of_free-requires-clause-free
-of_free-requires-clause-free c = free_first c.args.slots c.lines-lines.result 8191 c.in-Ok.table c.in-Ok.ensures.map
+of_free-requires-clause-free c = free_first c.args.slots c.lines-lines.result c.last_gen_for.result c.in-Ok.table c.in-Ok.ensures.map
 
 pub invariant_of-result : goal.invariant_of-result
 invariant_of-result c =

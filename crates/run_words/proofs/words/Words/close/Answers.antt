@@ -18,6 +18,7 @@ use Rattle.event_table.specs.EventMap.{EventMap, life_at, without_waiters}
 use Rattle.shared_events.specs.Views.{lists, shape_of}
 use Rattle.event_table.specs.declared.handle.Shape.{Shape}
 use Rattle.basics.proofs.ListFacts.{contains_none}
+use Rattle.run_parts.specs.LineEvents.{last_gen_for}
 use Rattle.run_parts.specs.Room.{HasRoom}
 use Rattle.run_parts.specs.Shown.{IsShown}
 use Rattle.run_words.specs.Reading.{state_for, value_for}
@@ -98,7 +99,7 @@ returns c =
     let k = b.ensures.left in
     let l : IsLeft g e c.args.seat.inner.me.0 k.0 k.1 words items = subst (λ (x : GraphValue). IsLeft x e c.args.seat.inner.me.0 k.0 k.1 words items) (sym c.graph-graph.ensures.graph)
     (subst (λ (x : Base). IsLeft x.checked.now.graph x.events c.args.seat.inner.me.0 k.0 k.1 words items) (sym b.ensures.base) k.2) in
-    let few : length g.lines ≤ 8192 = omega (arith, c.lines.ensures.number, c.lines.ensures.few) in
+    let few : length g.lines ≤ 65536 = omega (arith, c.lines.ensures.number, c.lines.ensures.few) in
     let issue_turn = l.issue_turn in
     let same : issue_turn.0 ≡ c.issue_state_of-issue_turn.result = issue_state_is issue_turn.0 c.issue_state_of-issue_turn.result (sym (one_content items (issue_turn_slot (size_of g)) c.take.result (Issuer issue_turn.0) (ap (get_elem? items) (sym c.issue_turn_slot.ensures) ∙ c.take.ensures.value) issue_turn.1) ∙ c.issue_state_of-issue_turn.ensures) in
     let issue_state = subst (λ (d : IssueState). IsIssueState e (length g.lines) k.1 d) same issue_turn.2 in
@@ -119,7 +120,7 @@ returns c =
     (λ h has. let a = lost.made h (subst (λ hs. Contains hs h) (sym issue_state.made) has) in (a.0, c.into_table.ensures.answers h ∙ a.1))
     (λ h a at. subst (λ hs. Contains hs h) issue_state.made (lost.only h a (sym (c.into_table.ensures.answers h) ∙ at)))
     (ap (λ (t : EventMap). t.waiters) c.into_table.ensures.map ∙ (lost.shape.1 ∙ (ap (λ (s : Shape). s.waiters) shape ∙ (own.shaped.0 ∙ ap (λ (x : GraphValue). length x.lines) (sym graph)))))
-    (ap (λ (t : EventMap). t.last_gen) c.into_table.ensures.map ∙ (ap (λ (s : ClosingRoom). s.table.last_gen) b.ensures.closing_room ∙ ap (λ (t : EventMap). t.last_gen) own.has_closing_room.table))
+    (ap (λ (t : EventMap). t.last_gen) c.into_table.ensures.map ∙ (ap (λ (s : ClosingRoom). s.table.last_gen) b.ensures.closing_room ∙ (ap (λ (t : EventMap). t.last_gen) own.has_closing_room.table ∙ ap (λ (x : GraphValue). last_gen_for (length x.lines)) (sym graph))))
     (λ i j has. contains_none j (subst (λ ws. Contains ws j) (ap (λ (t : EventMap). (life_at t i).waiting) c.into_table.ensures.map ∙ none_waits c.close.result i) has))
     c.as_slice.result.now (c.as_slice.ensures.value ∙ issue_state.listed) c.states_of-states.result c.states_of-states.ensures.each
     (subst (λ ws. (i : ℕ) → i < length g.lines → slice_get c.states_of-states.result i ≡ Some (state_for ws (size_of g) c.as_slice.result.now i)) words_same c.states_of-states.ensures.states)

@@ -5,6 +5,7 @@ pub returns : goal.returns
 returns c places = record {
   size = omega (arith, c.in_ok-doubted.ensures.size, c.lines.ensures.number);
   held = c.in_ok-held.ensures;
-  kept = λ q l a low sure. absurd (omega arith);
+  sound = λ q l a low sure. absurd (omega arith);
+  kept = λ sure q l i low sec. absurd (omega arith);
   sure = λ h q. c.in_ok-doubted.ensures.each q;
 }

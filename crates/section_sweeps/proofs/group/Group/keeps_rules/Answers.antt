@@ -23,13 +23,13 @@ loop-place-preserved c =
     let places = c.args.table.now.places.items in
     let at = get_or_read lines x c.index.result.now (omega (arith, c.loop-place-test.true, c.requires.swept.end, t.placed.lines_size)) c.index.ensures 0 in
     record {
-      held = c.keeps_rules_at.ensures.held;
-      grown = λ l i kept. c.keeps_rules_at.ensures.grown l i (c.loop-place.invariant.grown l i kept);
+      held = c.in_ok-keeps_rules_at.ensures.held;
+      grown = λ l i kept. c.in_ok-keeps_rules_at.ensures.grown l i (c.loop-place.invariant.grown l i kept);
       passed = λ i known from to. elim (cases_lt (slice_index places i) x) [
-        | inl before ↦ passed_grown g c.args.self.now c.loop-place.held c.keeps_rules_at.new.held i c.keeps_rules_at.ensures.grown (c.loop-place.invariant.passed i known from before)
+        | inl before ↦ passed_grown g c.args.self.now c.loop-place.held c.keeps_rules_at.new.held i c.in_ok-keeps_rules_at.ensures.grown (c.loop-place.invariant.passed i known from before)
         | inr up ↦ (
             let is : slice_index lines x ≡ i = line_at (length g.lines) lines places t.placed i x known (omega (arith, to, up)) in
-            subst (λ z. IsPassed g c.args.self.now c.keeps_rules_at.new.held z) (at ∙ is) (c.keeps_rules_at.ensures.passed c.if-not-keeps_rules_at.false))
+            subst (λ z. IsPassed g c.args.self.now c.keeps_rules_at.new.held z) (at ∙ is) (c.in_ok-keeps_rules_at.ensures.passed c.if-not-branch.false))
       ];
     }
 

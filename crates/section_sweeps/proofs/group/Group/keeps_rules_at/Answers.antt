@@ -33,7 +33,7 @@ returns-clause-passed c h =
       kept = λ b l begun ended a. (
           let low = (w.behind_is c.args.line b begun).0 in
           let is = ap (λ xs. slice_index xs b) c.as_slice-2.ensures.value in
-          c.keep_all.ensures.kept b l (omega (arith, low, ap length c.as_slice-2.ensures.value))
+          c.in_ok-keep_all.ensures.kept b l (omega (arith, low, ap length c.as_slice-2.ensures.value))
           (inside_from c.passed.result c.passed-2.result b (ap (λ z. bit_in z b) c.passed.ensures ∙ begun) (ap (λ z. bit_in z b) c.passed-2.ensures ∙ ended)) (subst (λ q. Acquires g q l) (sym is) a));
     }
 

@@ -11,5 +11,5 @@ returns-clause-kept c h b small =
     let s = c.sweep.new.self in
     let same = ap (λ (v : Vec ℕ Global). v.items) c.in-Some.ensures.acquires in
     subst (λ xs. IsSectionKept c.args.graph.now c.keeps_rules.new.held (slice_index xs b)) same
-    (section_kept c.args.graph.now t.is_graph c.args.table.now.places.items t.forward s c.keeps_rules.new.held c.in-Some.range.low c.in-Some.range.high c.in-Some.ensures.swept (c.keeps_rules.ensures.passed c.if-not-keeps_rules.false)
+    (section_kept c.args.graph.now t.is_graph c.args.table.now.places.items t.forward s c.keeps_rules.new.held c.in-Some.range.low c.in-Some.range.high c.in-Some.ensures.swept (c.in_ok-keeps_rules.ensures.passed c.if-not-branch.false)
     b (omega (arith, small, ap length same)))

@@ -16,5 +16,5 @@ returns-in_err-line-clause-limit c = λ h.
 pub returns-clause-ok : goal.returns-clause-ok
 returns-clause-ok c =
     let m = c.args.self.now in
-    pushed_merge m.graph.lines m.row.items c.push.new.items.items m.places.items m.merges c.add.new.self m.first c.in_ok-line.line c.args.events c.in_ok-name.name (c.in_ok-push.ensures.ok ∙ ap (λ (es : List ℕ). m.row.items ++ record { name = c.in_ok-name.name; verb = Merge c.args.events; «on» = es } ∷ []) c.new-on.ensures) c.in_ok-name.ensures c.in_ok-line.ensures.ok c.in_ok-add.ensures
+    pushed_merge m.graph.format m.graph.lines m.row.items c.push.new.items.items m.places.items m.merges c.add.new.self m.first c.in_ok-line.line c.args.events c.in_ok-name.name (c.in_ok-push.ensures.ok ∙ ap (λ (es : List ℕ). m.row.items ++ record { name = c.in_ok-name.name; verb = Merge c.args.events; «on» = es } ∷ []) c.new-on.ensures) c.in_ok-name.ensures c.in_ok-line.ensures.ok c.in_ok-add.ensures
     ∙ new_merge c.args.events (made_of m) c.in-None.ensures

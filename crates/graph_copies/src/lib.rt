@@ -1,0 +1,8 @@
+//! Copies of declarations and lines, to make graphs that differ from one another in a line.
+#![tactic(auto)]
+
+mod decls;
+mod lines;
+
+pub use decls::declared;
+pub use lines::copy_of_line;

@@ -1,0 +1,10 @@
+use Rattle.std.proofs.Common.{◌≡◌, nat_eq, length}
+use Rattle.graph_terms.specs.Fits.{repeats}
+use Rattle.graph_indexes.specs.Repeats.{clashes}
+use Rattle.graph_indexes.proofs.repeats.marked_repeat.Given as goal
+
+abbrev pub invariant-loop-rest : goal.invariant-loop-rest
+invariant-loop-rest l = clashes l.marks l.rest ≡ repeats nat_eq l.numbers
+
+abbrev pub decreases-loop-rest : goal.decreases-loop-rest
+decreases-loop-rest l = length l.rest

@@ -1,0 +1,2 @@
+mod AppliedSteps
+mod RuleFacts
