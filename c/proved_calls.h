@@ -13,10 +13,18 @@ uint32_t proved_realm_run_take(struct proved_held *run, uint32_t line, struct pr
 uint32_t proved_realm_work_perform(struct proved_held *work);
 uint32_t proved_realm_run_put_back(struct proved_held *run, struct proved_held *work);
 uint32_t proved_realm_run_woken(struct proved_held *run, uint32_t *line);
+uint32_t proved_realm_run_word(struct proved_held *run, uint32_t line, uint8_t *out, size_t room, uint64_t *written);
+uint32_t proved_realm_work_word(struct proved_held *work, uint8_t *out, size_t room, uint64_t *written);
+uint32_t proved_realm_work_value(struct proved_held *work, uint32_t k, uint64_t *value);
+uint32_t proved_realm_work_access(struct proved_held *work, uint32_t k, struct realm_access *access);
+uint32_t proved_realm_work_interval(struct proved_held *work, uint32_t k, uint32_t n, struct realm_interval *interval);
 uint32_t proved_realm_run_state(struct proved_held *run, struct realm_run_lines *lines);
 uint32_t proved_realm_run_report(struct proved_held *run, uint8_t *out, size_t room, uint64_t *written);
 void proved_realm_run_free(struct proved_held *run);
 void proved_realm_work_free(struct proved_held *work);
+
+/* Over them (realm_runs.c): the call of work, put together. */
+uint32_t realm_tell_call(struct proved_held *work, struct realm_call *call);
 
 /* realm_events_c: the handles are of the kinds that the public page names, of one table, and an event was created in it. */
 struct proved_event { uint32_t slot, gen; };

@@ -1,8 +1,14 @@
 /* A run by threads: the loop over issue, take, perform, put back and woken, with parking.
 
-   Locks: `lock` of the loop is the only one. It is held across the proved calls on the run (issue, take, put_back, woken, state), which
-   ask that one call at a time works on it, and across all that the loop keeps; it is not held while a line is performed. The run
-   itself is entered in the table of handles by realm_run_all, so no other call gets to it meanwhile. No other lock is taken within it.
+   Locks: `lock` of the loop, and a turn for each column into which a call reduces. `lock` is held across the proved calls on the run
+   (issue, take, put_back, woken, state), which ask that one call at a time works on it, and across all that the loop keeps; it is
+   not held while a line is performed. No other lock is taken within it. A turn is held while the body of a call runs, and no lock
+   but a higher turn is taken within it. The run itself is entered in the table of handles by realm_run_all, so no other call gets to
+   it meanwhile.
+
+   The loop is a host as the laws of host_bodies have it: a call is taken there when its turns are held, which is before its body
+   begins, and is put back when the body has returned. No other that reduces into one of its columns is between the two, and of those
+   that are out none else conflicts with it, by the clause of the proved call that takes it.
 
    Who parks: a thread that finds nothing to try while a line is out. Who wakes: a thread that takes a line and leaves something to try
    wakes one; the last one wakes all. So where something can be tried a thread that isn't parked is about to try it: who puts a line
@@ -16,10 +22,13 @@
 #include "proved_calls.h"
 #include <pthread.h>
 #include <stdlib.h>
+#include <string.h>
 
 enum { MOST_THREADS = 8 };
 /* Two things may share a list, so their numbers may be any. */
 enum { COLUMN_LISTS = 256, LOCK_LISTS = 64, BUSY_LISTS = COLUMN_LISTS + LOCK_LISTS };
+/* The turns of columns into which calls reduce; two columns may share one. */
+enum { COLUMN_TURNS = 32 };
 #define NO_LINE UINT32_MAX
 #define NO_LIST UINT32_MAX
 
@@ -36,6 +45,10 @@ struct loop {
     uint8_t *is_listed;
     uint32_t ready;               /* those to try now */
     uint32_t busy[BUSY_LISTS];
+    const struct realm_body *bodies;
+    size_t body_count;
+    int has_calls;
+    pthread_mutex_t columns[COLUMN_TURNS];
 };
 
 static void put(struct loop *loop, uint32_t *list, uint32_t line) {
@@ -93,17 +106,17 @@ static void note(struct loop *loop, uint32_t line, uint32_t status, uint32_t oth
     if (from != NO_LIST && from != to && !has_column) try_first(loop, from);
 }
 
-/* Takes a line. 0 where none can be taken now, or memory ran out. */
-static int take(struct loop *loop, struct proved_held *work) {
+/* Takes a line. NO_LINE where none can be taken now, or memory ran out. */
+static uint32_t take(struct loop *loop, struct proved_held *work) {
     uint32_t line, other = 0;
     while ((line = next_line(loop)) != NO_LINE) {
         uint32_t status = proved_realm_run_take(loop->run, line, work, &other);
         note(loop, line, status, other);
         if (status == REALM_RUN_NO_MEMORY) loop->status = status;
         if (status == REALM_RUN_DONE) loop->is_swept = 0;
-        if (status == REALM_RUN_NO_MEMORY || status == REALM_RUN_DONE) return status == REALM_RUN_DONE;
+        if (status == REALM_RUN_NO_MEMORY || status == REALM_RUN_DONE) return status == REALM_RUN_DONE ? line : NO_LINE;
     }
-    return 0;
+    return NO_LINE;
 }
 
 static void put_back(struct loop *loop, struct proved_held *work) {
@@ -128,14 +141,52 @@ static void end_loop(struct loop *loop) {
     pthread_cond_broadcast(&loop->changed);
 }
 
+/* The body for a word. 0 where there is none. */
+static const struct realm_body *body_of(const struct loop *loop, const char *word) {
+    for (size_t i = 0; i < loop->body_count; i++) {
+        const struct realm_body *body = &loop->bodies[i];
+        if (body->word && body->run && !strcmp(body->word, word)) return body;
+    }
+    return 0;
+}
+
+/* The turns that a call takes, a bit each: those of the columns into which it reduces. */
+static uint32_t turns_of(const struct realm_call *call) {
+    uint32_t turns = 0;
+    for (uint32_t k = 0; k < call->accesses; k++)
+        if (call->access[k].mode >= REALM_SUM) turns |= 1u << call->access[k].column % COLUMN_TURNS;
+    return turns;
+}
+
+/* Runs the body of a call. Turns are taken from the lowest on and no lock is taken within them, so no two threads wait for each other. */
+static void run_body(struct loop *loop, uint32_t line, struct proved_held *work) {
+    struct realm_call call;
+    if (!loop->has_calls || realm_tell_call(work, &call)) return;
+    call.operation = line;
+    call.work = work;
+    const struct realm_body *body = body_of(loop, call.word);
+    uint32_t turns = turns_of(&call);
+    for (uint32_t i = 0; i < COLUMN_TURNS; i++)
+        if (turns >> i & 1) pthread_mutex_lock(&loop->columns[i]);
+    body->run(&call, body->context);
+    for (uint32_t i = COLUMN_TURNS; i-- > 0;)
+        if (turns >> i & 1) pthread_mutex_unlock(&loop->columns[i]);
+}
+
+static void perform(struct loop *loop, uint32_t line, struct proved_held *work) {
+    run_body(loop, line, work);
+    proved_realm_work_perform(work);
+}
+
 /* One turn of a thread, under the lock: it does a line, or parks, or ends the loop. */
 static void turn(struct loop *loop) {
     struct proved_held work = {0};
-    if (loop->status == REALM_RUN_DONE && take(loop, &work)) {
+    uint32_t line = loop->status == REALM_RUN_DONE ? take(loop, &work) : NO_LINE;
+    if (line != NO_LINE) {
         loop->out++;
         if (loop->parked && has_more(loop)) pthread_cond_signal(&loop->changed);
         pthread_mutex_unlock(&loop->lock);
-        proved_realm_work_perform(&work);
+        perform(loop, line, &work);
         pthread_mutex_lock(&loop->lock);
         put_back(loop, &work);
         loop->out--;
@@ -179,7 +230,7 @@ static uint32_t perform_one(struct loop *loop) {
         uint32_t status = proved_realm_run_take(loop->run, line, &work, &other);
         if (status == REALM_RUN_NO_MEMORY) return status;
         if (status != REALM_RUN_DONE) continue;
-        proved_realm_work_perform(&work);
+        perform(loop, line, &work);
         proved_realm_run_put_back(loop->run, &work);
         return status;
     }
@@ -219,27 +270,45 @@ static int make_loop(struct loop *loop, struct proved_held *run, uint32_t lines)
         loop->is_listed[line] = 0;
     }
     for (uint32_t list = 0; list < BUSY_LISTS; list++) loop->busy[list] = NO_LINE;
+    for (uint32_t i = 0; i < COLUMN_TURNS; i++) pthread_mutex_init(&loop->columns[i], 0);
     pthread_mutex_init(&loop->lock, 0);
     pthread_cond_init(&loop->changed, 0);
     return 1;
 }
 
+/* Looks for calls of the graph, each of which has to have a body. NO_BODY where one has none. */
+static uint32_t find_calls(struct loop *loop) {
+    for (uint32_t line = 0; line < loop->lines; line++) {
+        uint8_t word[sizeof((struct realm_call *)0)->word] = {0};
+        uint64_t written;
+        uint32_t status = proved_realm_run_word(loop->run, line, word, sizeof word - 1, &written);
+        if (status != REALM_RUN_DONE) continue;
+        if (!body_of(loop, (const char *)word)) return REALM_MISUSE_NO_BODY;
+        loop->has_calls = 1;
+    }
+    return REALM_RUN_DONE;
+}
+
 /* The loop over a run that is entered. */
-static uint32_t run_entered(struct proved_held *run, uint32_t threads) {
+static uint32_t run_entered(struct proved_held *run, uint32_t threads, const struct realm_body *bodies, size_t count) {
     struct loop loop;
     struct realm_run_lines lines;
     uint32_t status = proved_realm_run_state(run, &lines);
     if (status) return status;
     if (lines.out) return REALM_MISUSE_WORK_OUT;
     if (!make_loop(&loop, run, lines.unissued + lines.issued + lines.ended)) return REALM_RUN_NO_MEMORY;
-    status = run_loop(&loop, threads, &lines);
+    loop.bodies = bodies;
+    loop.body_count = count;
+    status = find_calls(&loop);
+    if (status == REALM_RUN_DONE) status = run_loop(&loop, threads, &lines);
+    for (uint32_t i = 0; i < COLUMN_TURNS; i++) pthread_mutex_destroy(&loop.columns[i]);
     pthread_cond_destroy(&loop.changed);
     pthread_mutex_destroy(&loop.lock);
     free(loop.next);
     return status;
 }
 
-uint32_t realm_run_all(struct realm_run *run, uint32_t threads) {
+static uint32_t run_all(struct realm_run *run, uint32_t threads, const struct realm_body *bodies, size_t count) {
     struct realm_entry *entry;
     int cancels;
     if (threads > MOST_THREADS) return REALM_MISUSE_RANGE;
@@ -247,8 +316,15 @@ uint32_t realm_run_all(struct realm_run *run, uint32_t threads) {
     if (status) return status;
     /* (a thread that is cancelled here would leave the others with a loop that is gone) */
     pthread_setcancelstate(PTHREAD_CANCEL_DISABLE, &cancels);
-    status = run_entered(&entry->held, threads);
+    status = run_entered(&entry->held, threads, bodies, bodies ? count : 0);
+    entry->is_all_done |= status == REALM_RUN_DONE;
     pthread_setcancelstate(cancels, &cancels);
     realm_leave(entry);
     return status;
+}
+
+uint32_t realm_run_all(struct realm_run *run, uint32_t threads) { return run_all(run, threads, 0, 0); }
+
+uint32_t realm_run_all_with(struct realm_run *run, uint32_t threads, const struct realm_body *bodies, size_t count) {
+    return run_all(run, threads, bodies, count);
 }

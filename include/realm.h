@@ -101,6 +101,23 @@ enum realm_run_status {
     REALM_RUN_WRONG = 11
 };
 
+/* A call is an operation whose body is a function of the program's own (docs/LANGUAGE.md, "Calls"). What a body is told: */
+enum realm_mode { REALM_READ = 0, REALM_WRITE = 1, REALM_SUM = 2, REALM_MIN = 3, REALM_MAX = 4 };
+struct realm_access {
+    uint32_t mode;       /* WRITE stands for reading and writing; a reduction of floating point is a WRITE too */
+    uint32_t column;     /* of data, from 0 in the order of the text */
+    uint32_t space;      /* from 0 in the order of the text */
+};
+struct realm_call {
+    char word[64];       /* by which the program knows the body, with a zero byte behind it */
+    uint32_t operation;  /* its number, as realm_run_issue gives it */
+    uint32_t values, accesses;
+    uint64_t value[4];
+    struct realm_access access[8];
+    const void *work;    /* for realm_call_interval, while the body runs */
+};
+struct realm_interval { uint32_t first, last; };
+
 /* Checks a graph as realm_check does, and begins a run of it with so many event slots, at most 8,192; 0 stands for the
    greater of 256 and the need, up to 8,192. DONE; SLOTS exactly where the graph is accepted and they are fewer than its need, or
    8,192 are where 0 stands, want of memory aside; USAGE exactly where they are more than 8,192; UNREAD, UNFIT, NO_MEMORY,
@@ -111,9 +128,26 @@ uint32_t realm_run_new(const uint8_t *text, size_t length, uint32_t slots, struc
    call returns; where the system starts fewer, those do all. 0 stands for 1. What was issued before is gone on with. Then
    what is left waits for what never comes, and a report says the rest.
    DONE; NO_MEMORY, and then the run may be gone on with. Misuse: RANGE where there are more threads than 8, WORK_OUT, REPORTED;
-   FORGOTTEN where operations could still be taken at the end, which never should be; they are performed then. The loop is tested,
+   NO_BODY where the graph has a call, and then nothing is performed; FORGOTTEN where operations could still be taken at the end, which never should be; they are performed then. The loop is tested,
    not proved; each of its steps is a proved call of those below, and no answer of it makes a report wrong. */
 uint32_t realm_run_all(struct realm_run *run, uint32_t threads);
+
+/* The same, and runs the body of each call that is not cancelled: the function of the table with its word, the first one of several,
+   by the thread that performs the call, with the context that stands beside it. Bodies run side by side; those that reduce into
+   one column take turns, as do some that reduce into others. A body uses no memory of data but that of its call's accesses, and
+   changes none that it only reads. It returns, and leaves in no other way. It may call the library, but calls on this run answer IN_USE.
+   The table and its words stay as they are meanwhile. Misuse: NO_BODY where a call of the graph has a word that is not in the table,
+   and then nothing is performed. */
+struct realm_body {
+    const char *word;
+    void (*run)(const struct realm_call *call, void *context);
+    void *context;
+};
+uint32_t realm_run_all_with(struct realm_run *run, uint32_t threads, const struct realm_body *bodies, size_t count);
+
+/* Of a call that a body was handed, by the thread of that body: interval `number`, from 0, of the space of access `access`. DONE;
+   NONE where there is no such one. */
+uint32_t realm_call_interval(const struct realm_call *call, uint32_t access, uint32_t number, struct realm_interval *interval);
 
 /* Issues the next operation of the text. DONE with its number, from 0 in the order of the text, merges and user events included
    and declarations not (verdict.line and explanations count lines of the text, from 1); NONE exactly where all are issued; FULL
@@ -128,6 +162,17 @@ uint32_t realm_run_issue(struct realm_run *run, uint32_t *line);
    issued, is out or has ended; NEVER where it never comes; NO_MEMORY, and then nothing changed. Misuse: RANGE where the graph has
    no such operation; FILLED where out holds something; REPORTED. */
 uint32_t realm_run_take(struct realm_run *run, uint32_t line, struct realm_work *out, uint32_t *other);
+
+/* The call of an operation that was taken. DONE; NONE where it is no call, and where its wait is poisoned, so that its body is not
+   to be run; call is then left as it was. A program runs the body between this and realm_work_perform, side by side with others:
+   what is out does not conflict, but where both reduce into one column in sections of their own; those take turns by a lock of
+   the program's. The struct is put together in C of the answers of proved calls; of it `operation` and `work` are 0.
+   Misuse: PERFORMED. */
+uint32_t realm_work_call(struct realm_work *work, struct realm_call *call);
+
+/* Interval `number`, from 0, of the space of access `access` of the call. DONE; NONE where there is no such interval or access.
+   Misuse: PERFORMED. */
+uint32_t realm_work_interval(struct realm_work *work, uint32_t access, uint32_t number, struct realm_interval *interval);
 
 /* Performs an operation that was taken. DONE. Misuse: PERFORMED. */
 uint32_t realm_work_perform(struct realm_work *work);
@@ -153,7 +198,8 @@ uint32_t realm_run_state(struct realm_run *run, struct realm_run_lines *lines);
 
 /* Does what is left on the calling thread, and gives the report. DONE, NO_ROOM, NO_MEMORY; it may be called again, and nothing
    else but free is done with the run from then on. Misuse: WORK_OUT, also where work was freed that was not put back: such a
-   run never gives a report. */
+   run never gives a report; CALLS_LEFT where operations are left of a graph with calls and realm_run_all_with has not done all that
+   can be performed. */
 uint32_t realm_run_report(struct realm_run *run, uint8_t *out, size_t room, uint64_t *written);
 
 /* Frees a run, or work that is not to be put back: its operation is out for good. DONE; the struct is then empty. They may be freed

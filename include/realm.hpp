@@ -4,10 +4,13 @@
 #include "realm.h"
 #include "realm_events.h"
 #include <cstdint>
+#include <functional>
+#include <map>
 #include <optional>
 #include <string>
 #include <string_view>
 #include <utility>
+#include <vector>
 
 namespace realm {
 
@@ -112,8 +115,13 @@ template <typename Raw, uint32_t (*Free)(Raw *)> class Handle {
     Raw held{0};
 };
 
+// The body of a call. Several threads call it at once, each for a call of its own. It throws nothing: one that does ends the program.
+using Body = std::function<void(const realm_call &)>;
+
 // The work of one operation. A run whose work was freed before it was put back gives no report.
 struct Work : Handle<realm_work, realm_work_free> {
+    uint32_t call(realm_call &call) { return realm_work_call(&held, &call); }
+    uint32_t interval(uint32_t access, uint32_t number, realm_interval &interval) { return realm_work_interval(&held, access, number, &interval); }
     uint32_t perform() { return realm_work_perform(&held); }
 };
 
@@ -128,6 +136,13 @@ struct Run : Handle<realm_run, realm_run_free> {
     }
     // Performs all that can be performed, on 1 to 8 threads with the calling one.
     uint32_t perform_all(uint32_t threads) { return realm_run_all(&held, threads); }
+    // The same with the bodies of calls, by their words.
+    uint32_t perform_all(uint32_t threads, const std::map<std::string, Body> &bodies) {
+        std::vector<realm_body> table;
+        auto run = [](const realm_call *call, void *body) noexcept { (*static_cast<const Body *>(body))(*call); };
+        for (const auto &[word, body] : bodies) table.push_back({word.c_str(), run, const_cast<Body *>(&body)});
+        return realm_run_all_with(&held, threads, table.data(), table.size());
+    }
     uint32_t state(realm_run_lines &lines) { return realm_run_state(&held, &lines); }
     uint32_t issue(uint32_t &line) { return realm_run_issue(&held, &line); }
     uint32_t take(uint32_t line, Work &out, uint32_t &other) {

@@ -19,6 +19,8 @@ enum realm_misuse {
     REALM_MISUSE_PERFORMED = 20,    /* the work was performed before */
     REALM_MISUSE_FILLED = 21,       /* the handle that is to be filled holds something */
     REALM_MISUSE_OTHER_THREAD = 23, /* a closed table is used by another thread than the one that closed it */
-    REALM_MISUSE_FORGOTTEN = 24     /* realm_run_all overlooked operations that could be taken, an error of its own; it performed them at its end */
+    REALM_MISUSE_FORGOTTEN = 24,    /* realm_run_all overlooked operations that could be taken, an error of its own; it performed them at its end */
+    REALM_MISUSE_NO_BODY = 25,      /* a call of the graph has a word that is not in the table */
+    REALM_MISUSE_CALLS_LEFT = 26    /* operations are left of a graph with calls, which a report has no bodies for */
 };
 #endif

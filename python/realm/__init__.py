@@ -17,10 +17,10 @@ installation or the repository to which this package belongs, else one that the 
 from ._library import VERSION as __version__
 from .errors import Misuse, Refused
 from .events import Closed, Ended, Event, Owner, Pending, Place, Receipt, Waiter
-from .runs import Run, State, Work, run
+from .runs import Access, Call, Run, State, Work, run
 from .texts import FAULT, RULE, WHY, audit, check, evaluate, explain, make, plan, upgrade, word
 
 __all__ = [
-    "FAULT", "RULE", "WHY", "Closed", "Ended", "Event", "Misuse", "Owner", "Pending", "Place", "Receipt", "Refused", "Run", "State", "Waiter",
+    "FAULT", "RULE", "WHY", "Access", "Call", "Closed", "Ended", "Event", "Misuse", "Owner", "Pending", "Place", "Receipt", "Refused", "Run", "State", "Waiter",
     "Work", "__version__", "audit", "check", "evaluate", "explain", "make", "plan", "run", "upgrade", "word",
 ]  # fmt: skip

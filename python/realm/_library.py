@@ -39,6 +39,35 @@ class Lines(ctypes.Structure):
     _fields_ = [(name, U32) for name in ("unissued", "issued", "out", "ended", "left")]
 
 
+class AccessNumbers(ctypes.Structure):
+    """How a call uses a column of data over a space."""
+
+    _fields_ = [("mode", U32), ("column", U32), ("space", U32)]
+
+
+class CallNumbers(ctypes.Structure):
+    """What the body of a call is told."""
+
+    _fields_ = [
+        ("word", ctypes.c_char * 64),
+        ("operation", U32),
+        ("values", U32),
+        ("accesses", U32),
+        ("value", U64 * 4),
+        ("access", AccessNumbers * 8),
+        ("work", ctypes.c_void_p),
+    ]
+
+
+BODY = ctypes.CFUNCTYPE(None, ctypes.POINTER(CallNumbers), ctypes.c_void_p)
+
+
+class BodyOfWord(ctypes.Structure):
+    """The body for the calls of one word."""
+
+    _fields_ = [("word", TEXT), ("run", BODY), ("context", ctypes.c_void_p)]
+
+
 class EventHandle(ctypes.Structure):
     """The handle of an event."""
 
@@ -61,8 +90,10 @@ _CALLS = {
     "realm_run_message": [U32, *_BUFFER],
     "realm_run_new": [TEXT, SIZE, U32, _HANDLE, ctypes.POINTER(Verdict)],
     "realm_run_all": [_HANDLE, U32],
+    "realm_run_all_with": [_HANDLE, U32, ctypes.POINTER(BodyOfWord), SIZE],
     "realm_run_issue": [_HANDLE, _NUMBER],
     "realm_run_take": [_HANDLE, U32, _HANDLE, _NUMBER],
+    "realm_work_call": [_HANDLE, ctypes.POINTER(CallNumbers)],
     "realm_work_perform": [_HANDLE],
     "realm_run_put_back": [_HANDLE, _HANDLE],
     "realm_run_woken": [_HANDLE, _NUMBER],

@@ -3,14 +3,16 @@
 from __future__ import annotations
 
 import ctypes
+from collections.abc import Callable, Mapping
 from dataclasses import dataclass
 from typing import AnyStr
 
-from ._library import DONE, LIB, U32, Handle, Lines, Verdict, text_of
+from ._library import BODY, DONE, LIB, U32, BodyOfWord, CallNumbers, Handle, Lines, Verdict, text_of
 from .errors import checked
 from .texts import bytes_of, like, refused, within
 
 NOT_YET, BUSY_LOCK, BUSY_COLUMN, NONE, FULL, OVER, NEVER = 1, 2, 3, 4, 5, 9, 10
+MODES = ("read", "write", "sum", "min", "max")
 
 
 @dataclass(frozen=True)
@@ -27,11 +29,59 @@ class State:
     left: int
 
 
+@dataclass(frozen=True)
+class Access:
+    """How a call uses a column of data over a space: `mode` is a word of the language, the numbers are from 0 in the order of the text."""
+
+    mode: str
+    column: int
+    space: int
+
+
+@dataclass(frozen=True)
+class Call:
+    """What the body of a call is told."""
+
+    word: str
+    operation: int
+    values: tuple[int, ...]
+    accesses: tuple[Access, ...]
+
+
+def _call(numbers: CallNumbers) -> Call:
+    accesses = (Access(MODES[it.mode], it.column, it.space) for it in numbers.access[: numbers.accesses])
+    return Call(numbers.word.decode(), numbers.operation, tuple(numbers.value[: numbers.values]), tuple(accesses))
+
+
+class _Table:
+    """Bodies as the library takes them. After a body that raised no other is run, and what the first one raised is kept."""
+
+    def __init__(self, bodies: Mapping[str, Callable[[Call], None]]):
+        self.raised: list[BaseException] = []
+        self._functions = [self._guarded(it) for it in bodies.values()]  # (the library holds no reference)
+        self.entries = (BodyOfWord * len(bodies))(*(BodyOfWord(word.encode(), run, None) for word, run in zip(bodies, self._functions)))
+
+    def _guarded(self, body: Callable[[Call], None]) -> BODY:
+        def run(numbers, _):
+            try:
+                if not self.raised:
+                    body(_call(numbers.contents))
+            except BaseException as error:  # (nothing may pass through the library's own frames)
+                self.raised.append(error)
+
+        return BODY(run)
+
+
 class Work:
     """An operation that was taken. It is performed once, by any thread, and then put back; a thread performs it beside the others."""
 
     def __init__(self, run: Run, handle: Handle, line: int):
         self._run, self._handle, self.line = run, handle, line
+
+    def call(self) -> Call | None:
+        """What its body is told. None where it is no call, and where its wait is poisoned, so that its body is not to be run."""
+        numbers = CallNumbers()
+        return _call(numbers) if checked(LIB.realm_work_call(self._handle, numbers), NONE) == DONE else None
 
     def perform(self) -> None:
         """Performs the operation."""
@@ -60,9 +110,21 @@ class Run:
         if status != DONE:
             raise refused(status, verdict, given)
 
-    def perform_all(self, threads: int = 4) -> None:
-        """Performs all that can be performed on 1 to 8 threads, with the calling one."""
-        checked(LIB.realm_run_all(self._handle, within(threads, 0, 8)))
+    def perform_all(self, threads: int = 4, bodies: Mapping[str, Callable[[Call], None]] | None = None) -> None:
+        """Performs all that can be performed on 1 to 8 threads, with the calling one.
+
+        A graph with calls needs `bodies`, a function for the word of each. They run side by side as far as they let other threads go on. What one of them
+        raises is raised once no body runs any more; no other is begun then, and the run is freed. An interrupt from the keyboard is seen then too.
+        """
+        if bodies is None:
+            checked(LIB.realm_run_all(self._handle, within(threads, 0, 8)))
+            return
+        table = _Table(bodies)
+        status = LIB.realm_run_all_with(self._handle, within(threads, 0, 8), table.entries, len(bodies))
+        if table.raised:
+            self.free()
+            raise table.raised[0]
+        checked(status)
 
     def issue(self) -> int | None:
         """Issues the next operation of the text: its number. None where all are issued, or no slot is free."""

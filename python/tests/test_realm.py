@@ -80,6 +80,32 @@ class Runs(unittest.TestCase):
             text = (EXAMPLES / f"{name}.realm").read_text()
             self.assertEqual((realm.evaluate(text), realm.run(text, threads=4)), (shown(name), shown(name)))
 
+    def test_bodies_of_calls(self):
+        text = (EXAMPLES / "calls.realm").read_text()
+        told = []
+        words = ("potrf", "trsm", "gemm", "norm")
+        for threads in (1, 4):
+            told.clear()
+            with realm.Run(text) as run:
+                run.perform_all(threads, {word: told.append for word in words})
+                self.assertEqual(run.report(), realm.evaluate(text))
+            order = [it.word for it in told]
+            self.assertEqual((sorted(order), order[0]), (sorted(words), "potrf"))
+            self.assertLess(order.index("trsm"), order.index("gemm"))
+            trsm = told[order.index("trsm")]
+            self.assertEqual((trsm.operation, trsm.values, trsm.accesses), (1, (128,), (realm.Access("read", 0, 0), realm.Access("write", 0, 1))))
+
+    def test_a_body_that_is_missing_and_one_that_raises(self):
+        text = (EXAMPLES / "calls.realm").read_text()
+        told = []
+        with realm.Run(text) as run:
+            with self.assertRaises(realm.Misuse):
+                run.perform_all(2, {"potrf": told.append})
+            self.assertEqual((run.state().unissued, told), (4, []))
+        with realm.Run(text) as run, self.assertRaises(ZeroDivisionError):
+            run.perform_all(2, {"potrf": lambda call: 1 // 0, "trsm": told.append, "gemm": told.append, "norm": told.append})
+        self.assertEqual(told, [])
+
     def test_generated_graphs(self):
         for seed in range(20):
             text = realm.make(seed, 50)

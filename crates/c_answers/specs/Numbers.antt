@@ -1,7 +1,7 @@
 -- The numbers by which C is told of rules, reasons and faults, and their words.
 use Rattle.std.specs.Prelude.{ℕ, List, codes}
 use Rattle.graph_terms.specs.declared.why.Why.{Why}
-use Rattle.graph_terms.specs.declared.why.Why.TheVariants.{Header, Syntax, Name, Twice, Unknown, Kind, Number, Space, Outside, Arrivals, Limit, Missing, Rest}
+use Rattle.graph_terms.specs.declared.why.Why.TheVariants.{Header, Syntax, Name, Twice, Unknown, Kind, Number, Space, Outside, Arrivals, Limit, Missing, Rest, Meets}
 use Rattle.race_check.specs.declared.checked.CheckRefusal.{CheckRefusal}
 use Rattle.race_check.specs.declared.checked.CheckRefusal.TheVariants as rule
 use Rattle.realm_audit.specs.declared.refusal.AuditRefusal.{AuditRefusal}
@@ -10,7 +10,7 @@ use Rattle.c_answers.specs.declared.reading.Refusal.{Refusal}
 use Rattle.c_answers.specs.declared.reading.Refusal.TheVariants as refusal
 use Rattle.c_answers.specs.declared.verdict.Verdict.{Verdict}
 
--- the number of a reason
+-- the number of a reason; 14 is that for the text of a trace
 abbrev pub why_number : Why → ℕ
 why_number Header = 1
 why_number Syntax = 2
@@ -25,6 +25,7 @@ why_number Arrivals = 10
 why_number Limit = 11
 why_number Missing = 12
 why_number Rest = 13
+why_number Meets = 15
 
 -- the number of a rule
 abbrev pub rule_number : CheckRefusal → ℕ

@@ -87,3 +87,9 @@ pub const OTHER_THREAD: u32 = 23;
 
 /// The loop over a run has left a line that comes. No call here answers it.
 pub const FORGOTTEN: u32 = 24;
+
+/// A call of the graph has a word that is not in the table of bodies. No call here answers it.
+pub const NO_BODY: u32 = 25;
+
+/// Operations are left of a graph with calls. No call here answers it.
+pub const CALLS_LEFT: u32 = 26;

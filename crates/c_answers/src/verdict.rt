@@ -134,7 +134,7 @@ fn rule_number(why: CheckRefusal) -> u32
     }
 }
 
-/// The number of a reason.
+/// The number of a reason. 14 is that for the text of a trace.
 fn why_number(why: Why) -> u32
     ensures { result ≡ why_number why }
 {
@@ -152,5 +152,6 @@ fn why_number(why: Why) -> u32
         Why::Limit => 11,
         Why::Missing => 12,
         Why::Rest => 13,
+        Why::Meets => 15,
     }
 }

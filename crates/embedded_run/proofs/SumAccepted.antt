@@ -10,7 +10,7 @@ use Rattle.graph_terms.specs.declared.verb.EdgeKind.TheVariants.{Passes}
 use Rattle.graph_terms.specs.declared.verb.Line.{Line}
 use Rattle.graph_terms.specs.declared.verb.Mode.TheVariants.{Write}
 use Rattle.graph_terms.specs.Graph.{line_passes, is_acquire_of, is_release_of}
-use Rattle.graph_terms.specs.Access.{access, accesses}
+use Rattle.graph_terms.specs.Access.{access, all_accesses}
 use Rattle.graph_terms.specs.Edges.{edge, edges}
 use Rattle.graph_meaning.specs.Path.{HasPath, last, first}
 use Rattle.graph_meaning.specs.Rules.{RaceAt, EverywhereTwice, Accepted}
@@ -57,7 +57,7 @@ no_release q (suc (suc (suc zero))) h = true≢false (sym h)
 no_release q (suc (suc (suc (suc k)))) h = true≢false (sym h)
 
 -- a fill uses its own column, and the sum comes last
-uses : (i : ℕ) (a : Access) → Contains (accesses sum_graph i) a → ((i ≡ 0) × (a.column ≡ 0)) ⊎ (((i ≡ 1) × (a.column ≡ 1)) ⊎ (i ≡ 3))
+uses : (i : ℕ) (a : Access) → Contains (all_accesses sum_graph i) a → ((i ≡ 0) × (a.column ≡ 0)) ⊎ (((i ≡ 1) × (a.column ≡ 1)) ⊎ (i ≡ 3))
 uses zero a c = elim (contains_cases (access 0 0 Write) [] a c) [ inl e ↦ inl (refl, sym (ap (λ (x : Access). x.column) e)) | inr none ↦ absurd (contains_none a none) ]
 uses (suc zero) a c = elim (contains_cases (access 1 0 Write) [] a c) [ inl e ↦ inr (inl (refl, sym (ap (λ (x : Access). x.column) e))) | inr none ↦ absurd (contains_none a none) ]
 uses (suc (suc zero)) a c = absurd (contains_none a c)

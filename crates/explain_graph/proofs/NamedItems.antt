@@ -8,7 +8,7 @@ use Rattle.graph_terms.specs.Graph.{GraphValue, line_passes, is_phase, never_com
 use Rattle.graph_terms.specs.Edges.{edges}
 use Rattle.graph_terms.specs.Fits.{IsGraph}
 use Rattle.graph_meaning.specs.Laws.{EdgesBetweenLines}
-use Rattle.graph_meaning.specs.LineLaws.{AccessesFit}
+use Rattle.graph_meaning.specs.LineLaws.{AllAccessesFit}
 use Rattle.graph_meaning.specs.Path.{HasPath}
 use Rattle.graph_terms.proofs.Public.{acquired_lock_known}
 use Rattle.race_check.specs.declared.checked.CheckRefusal.{CheckRefusal}
@@ -40,7 +40,7 @@ entered_names : (g : GraphValue) (i j : ℕ) (P : Type 0) (Q : Vec Edge Global �
 entered_names g i j P Q None m = tt
 entered_names g i j P Q (Some p) m = path_edges_of g i j p.items m.0
 
-pub named : (g : GraphValue) → EdgesBetweenLines → AccessesFit → IsGraph g → (why : CheckRefusal) (x : Explanation) → NamesLines g why → IsExplanation g why x → NamesItems g x
+pub named : (g : GraphValue) → EdgesBetweenLines → AllAccessesFit → IsGraph g → (why : CheckRefusal) (x : Explanation) → NamesLines g why → IsExplanation g why x → NamesItems g x
 named g between fit graph (refusal.Cycle i) (Cycle r) l x = (subst (λ z. z < length g.lines) (sym x.line) l, path_edges_of g i i r.cycle.items x.cycle)
 named g between fit graph (refusal.Unreleased i) (Unreleased r) l x = (subst (λ z. z < length g.lines) (sym x.acquire) l, acquired_lock_known g graph i r.lock x.lock)
 named g between fit graph (refusal.Section i j) (OutsideSection r) l x = (

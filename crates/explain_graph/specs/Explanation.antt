@@ -1,10 +1,10 @@
 -- What each explanation says of a graph.
-use Rattle.std.specs.Prelude.{◌≡◌, ◌≢◌, ℕ, ◌<◌, ◌≤◌, not, [], length, Contains, IsTrue, Some, None, MatchOption, IfSome, List, slice_get, find}
+use Rattle.std.specs.Prelude.{◌≡◌, ◌≢◌, ℕ, ◌+◌, ◌<◌, ◌≤◌, not, [], length, Contains, IsTrue, Some, None, MatchOption, IfSome, List, slice_get, find}
 use Rattle.graph_terms.specs.declared.verb.Line.{Line}
 use Rattle.graph_terms.specs.declared.verb.Edge.{Edge}
 use Rattle.graph_terms.specs.Edges.{edges}
 use Rattle.explanations.specs.declared.meetings.Meeting.{Meeting}
-use Rattle.graph_terms.specs.Graph.{GraphValue, locks, columns, line_passes, is_phase, is_merge_ignore, never_comes}
+use Rattle.graph_terms.specs.Graph.{GraphValue, locks, columns, data_columns, line_passes, is_phase, is_merge_ignore, never_comes}
 use Rattle.graph_meaning.specs.Path.{HasPath}
 use Rattle.graph_terms.specs.Reservations.{Acquires, Releases}
 use Rattle.graph_meaning.specs.Rules.{Section, Exempt, modes_commute}
@@ -108,4 +108,4 @@ NamesItems g (Unreleased r) = (r.acquire < length g.lines) × (r.lock < length (
 NamesItems g (OutsideSection r) = (r.release < length g.lines) × (r.line < length g.lines) × AreEdges g r.path.items × IfSome r.entered (λ p. AreEdges g p.items)
 NamesItems g (Descends r) = (r.outer < length g.lines) × (r.inner < length g.lines) × (r.outer_lock < length (locks g)) × (r.inner_lock < length (locks g)) × AreEdges g r.entered.items × AreEdges g r.left.items
 NamesItems g (ReleaseFault r) = r.release < length g.lines
-NamesItems g (Race r) = (r.first < length g.lines) × (r.second < length g.lines) × (r.race.shared.one.column < length (columns g)) × IfSome r.race.meeting (NamesMeeting g)
+NamesItems g (Race r) = (r.first < length g.lines) × (r.second < length g.lines) × (r.race.shared.one.column < length (columns g) + length (data_columns g)) × IfSome r.race.meeting (NamesMeeting g)

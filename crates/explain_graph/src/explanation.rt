@@ -11,7 +11,7 @@ use crate::reasons::{
     explain_unreleased,
 };
 use graph_meaning::laws::edges_between_lines;
-use graph_meaning::line_laws::accesses_fit;
+use graph_meaning::line_laws::all_accesses_fit;
 use graph_model::graph::Graph;
 use index_spaces::NoMemory;
 use race_check::checked::CheckRefusal;
@@ -37,7 +37,7 @@ pub fn explain(alloc: Global, graph: &Graph, why: CheckRefusal) -> Result<Explan
     ensures explains { IfOk result (IsExplanation graph.now why) }
     ensures names { IfOk result (NamesItems graph.now) }
 {
-    accesses_fit();
+    all_accesses_fit();
     edges_between_lines();
     let _ = graph.lines();
     let explanation = explain_rule(alloc, graph, why)?;

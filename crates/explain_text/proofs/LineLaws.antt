@@ -1,5 +1,5 @@
 -- What is told as a line of the text is that line.
-use Rattle.std.proofs.Common.{◌≡◌, ℕ, ◌+◌, ◌-◌, List, [], length, sym, ◌∙◌, ap, arith}
+use Rattle.std.proofs.Common.{◌≡◌, ℕ, ◌-◌, List, [], sym, ◌∙◌, ap}
 use Rattle.std.specs.Prelude.{Some, slice_get}
 use Rattle.std.specs.List.{join_with_byte}
 use Rattle.std.proofs.lemmas.Option.{get_or_from_slice_get}

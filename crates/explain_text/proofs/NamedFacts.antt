@@ -1,6 +1,6 @@
 -- Lines that give names.
 use Rattle.std.proofs.Common.{inl, inr, ◌≡◌, ℕ, suc, map, ◌+◌, ◌-◌, ◌<◌, ◌≤◌, Bool, true, false, cond, ◌||◌, List, [], ◌∷◌, ◌++◌, length, take, drop, refl, sym, ◌∙◌, ap, subst, append_assoc, arith}
-use Rattle.std.specs.Prelude.{Contains, Option, Some, None, IfSome, option_map}
+use Rattle.std.specs.Prelude.{Contains, Option, Some, None, IfSome}
 use Rattle.std.specs.Borrow.{Bor}
 use Rattle.std.specs.List.{slice_index_or, list_any}
 use Rattle.std.specs.Str.{bytes_eq}

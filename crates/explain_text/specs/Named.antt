@@ -4,14 +4,14 @@ use Rattle.std.specs.List.{slice_index_or, list_any}
 use Rattle.std.specs.Str.{bytes_eq}
 use Rattle.graph_terms.specs.declared.format.Format.{Format}
 use Rattle.graph_words.specs.Words.{pieces, first_piece}
-use Rattle.graph_words.specs.Draft.{Place, NewName, SpaceName, LockName, BarrierName, UserName, PhaseName, AcquireName, EventName, Column}
+use Rattle.graph_words.specs.Draft.{Place, NewName, SpaceName, LockName, BarrierName, UserName, PhaseName, AcquireName, EventName, Column, DataColumn}
 use Rattle.refused_words.specs.Places.{place_at}
 use Rattle.explain_text.specs.Shown.{shown, more_text}
 use Rattle.explain_text.specs.declared.naming.NamedWord.{NamedWord}
 
 -- the words with which a declaration begins
 abbrev pub declares : List ℕ → Bool
-declares w = bytes_eq w (codes "space") || (bytes_eq w (codes "inst") || (bytes_eq w (codes "lock") || bytes_eq w (codes "barrier")))
+declares w = bytes_eq w (codes "space") || (bytes_eq w (codes "inst") || (bytes_eq w (codes "data") || (bytes_eq w (codes "lock") || bytes_eq w (codes "barrier"))))
 
 -- the name that a line gives: that of an operation stands before the sign, that of a declaration behind its word
 abbrev pub given_by : List ℕ → List ℕ → List ℕ
@@ -35,7 +35,7 @@ pub record IsNamedWord (names : List (List ℕ)) (number : ℕ) (x : NamedWord) 
   pub above : x.above ≡ first_place x.word.now 0 (take (number - 1) names)
   pub below : x.below ≡ first_place x.word.now number (drop number names)
 
--- the name that a word stands for in its place, but for that of a new name
+-- the name that a word stands for in its place, but for that of a new name; the word of a call is none of the graph's
 abbrev pub name_in : Place → List ℕ → Option (List ℕ)
 name_in SpaceName w = Some w
 name_in LockName w = Some w
@@ -45,6 +45,7 @@ name_in PhaseName w = Some w
 name_in AcquireName w = Some w
 name_in EventName w = Some w
 name_in Column w = Some (first_piece (pieces 46 w))
+name_in DataColumn w = Some (first_piece (pieces 46 w))
 name_in _ w = None
 
 -- a new name is told where a line above gives it too
@@ -73,7 +74,7 @@ abbrev pub once_words : (ℕ → Option (List ℕ)) → ℕ → List (List ℕ)
 once_words f zero = []
 once_words f (suc n) = with_told (once_words f n) (f n)
 
--- the third word of a line: of an instance its space
+-- the third word of a line: of an instance or of data its space
 abbrev pub third_of : List (List ℕ) → List ℕ
 third_of (first ∷ second ∷ third ∷ rest) = third
 third_of _ = []
@@ -84,11 +85,12 @@ third_at ls None = []
 third_at ls (Some k) = third_of (pieces 32 (slice_index_or ls k []))
 
 abbrev pub over_word : List (List ℕ) → List (List ℕ) → ℕ → List ℕ → List ℕ
-over_word ls names number inst = third_at ls (first_place inst 0 (take (number - 1) names))
+over_word ls names number owner = third_at ls (first_place owner 0 (take (number - 1) names))
 
--- the space over which the instance of a column is declared
+-- the space over which the instance of a column is declared, or the data
 abbrev pub space_in : List (List ℕ) → List (List ℕ) → ℕ → Option Place → List ℕ → Option (List ℕ)
 space_in ls names number (Some Column) w = Some (over_word ls names number (first_piece (pieces 46 w)))
+space_in ls names number (Some DataColumn) w = Some (over_word ls names number (first_piece (pieces 46 w)))
 space_in ls names number _ w = None
 
 abbrev pub space_word : Format → List (List ℕ) → List (List ℕ) → ℕ → List (List ℕ) → ℕ → Option (List ℕ)

@@ -70,6 +70,7 @@ fn declares(word: &[u8]) -> bool
 {
     word == b"space".as_slice()
         || word == b"inst".as_slice()
+        || word == b"data".as_slice()
         || word == b"lock".as_slice()
         || word == b"barrier".as_slice()
 }

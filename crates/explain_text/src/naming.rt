@@ -16,7 +16,7 @@ use graph_terms::table::Place;
 use graph_words::words::word;
 use index_spaces::NoMemory;
 use index_spaces::room::push;
-use refused_words::{WordPlace, place_at};
+use refused_words::{LineWords, WordPlace, place_at};
 use std::alloc::Global;
 
 /// A name that a word stands for, the topmost line above that gives it, and the topmost line below that
@@ -69,9 +69,10 @@ fn told_names<'a>(
 ) -> Result<NameList<'a>, NoMemory>
     ensures { IfOk result (λ v. v ≡ once_words (told_word format (contents names.now) number (contents words.now)) (length words.now)) }
 {
+    let places = LineWords::of(format, words);
     let mut list = NameList::new(alloc);
     for k in 0..words.len() {
-        if let Some(name) = told_word(format, names, number, words, k) {
+        if let Some(name) = told_word(&places, names, number, words, k) {
             list.add(name)?;
         }
     }
@@ -80,17 +81,18 @@ fn told_names<'a>(
 
 /// The name that is told of the word of number `k`.
 fn told_word<'a>(
-    format: Format,
+    places: &LineWords,
     names: &[&[u8]],
     number: u32,
     words: &[&'a [u8]],
     k: usize,
 ) -> Option<&'a [u8]>
-    requires { k < length words.now }
-    ensures { option_map (λ x. x.now) result ≡ told_word format (contents names.now) number (contents words.now) k }
+    requires words { places.now.words ≡ contents words.now }
+    requires there { k < length words.now }
+    ensures { option_map (λ x. x.now) result ≡ told_word places.now.format (contents names.now) number (contents words.now) k }
 {
     let word = words[k];
-    match place_at(format, words, k) {
+    match places.place(k) {
         None => None,
         Some(WordPlace::NewName) => given_above(names, number, word),
         Some(place) => name_in(place, word),
@@ -114,7 +116,7 @@ fn name_in(place: WordPlace, word: &[u8]) -> Option<&[u8]>
 {
     match place {
         WordPlace::Event => Some(word),
-        WordPlace::Of(Place::Column(..)) => Some(before_dot(word)),
+        WordPlace::Of(Place::Column(..)) | WordPlace::DataColumn => Some(before_dot(word)),
         WordPlace::Of(
             Place::User
             | Place::Phase
@@ -146,8 +148,9 @@ fn look_up_all<'a>(
     Ok(found)
 }
 
-/// The space over which the instance of the word of number `k` is declared, with the lines that give
-/// it, where that word is a column. The line is counted from 1, and the names are those that lines give.
+/// The space over which the instance or the data of the word of number `k` is declared, with the lines
+/// that give it, where that word is a column. The line is counted from 1, and the names are those that
+/// lines give.
 pub fn named_space<'a>(
     format: Format,
     lines: &[&'a [u8]],
@@ -162,7 +165,7 @@ pub fn named_space<'a>(
     ensures inside { IfSome result (IsInside (length names.now)) }
 {
     match place_at(format, words, k) {
-        Some(WordPlace::Of(Place::Column(..))) => {
+        Some(WordPlace::Of(Place::Column(..)) | WordPlace::DataColumn) => {
             let space = over_word(lines, names, number, before_dot(word(words, k)));
             Some(look_up(names, number, space))
         }
@@ -170,12 +173,12 @@ pub fn named_space<'a>(
     }
 }
 
-/// The third word of the line above that gives this name: of an instance its space.
-fn over_word<'a>(lines: &[&'a [u8]], names: &[&[u8]], number: u32, inst: &[u8]) -> &'a [u8]
+/// The third word of the line above that gives this name: of an instance or of data its space.
+fn over_word<'a>(lines: &[&'a [u8]], names: &[&[u8]], number: u32, owner: &[u8]) -> &'a [u8]
     requires { length names.now ≡ length lines.now }
-    ensures { result.now ≡ over_word (contents lines.now) (contents names.now) number inst.now }
+    ensures { result.now ≡ over_word (contents lines.now) (contents names.now) number owner.now }
 {
-    match look_up(names, number, inst).above {
+    match look_up(names, number, owner).above {
         Some(place) => third_word(lines[place]),
         None => b"",
     }

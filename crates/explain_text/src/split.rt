@@ -60,8 +60,8 @@ pub(crate) fn front<'a, 'b>(parts: &'b [&'a [u8]], n: usize) -> &'b [&'a [u8]]
     if n < parts.len() { &parts[..n] } else { parts }
 }
 
-/// The parts behind the first `n`.
-pub(crate) fn back<'a, 'b>(parts: &'b [&'a [u8]], n: usize) -> &'b [&'a [u8]]
+/// The parts behind the first `n`, none where there are no more.
+pub fn back<'a, 'b>(parts: &'b [&'a [u8]], n: usize) -> &'b [&'a [u8]]
     ensures { contents result.now ≡ drop n (contents parts.now) }
 {
     if n < parts.len() { &parts[n..] } else { &[] }

@@ -3,3 +3,4 @@ pub mod Endings
 pub mod Marking
 pub mod Telling
 mod FieldFacts
+mod ColumnFacts

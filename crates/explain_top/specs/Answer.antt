@@ -41,7 +41,7 @@ use Rattle.refused_words.specs.Refused.{IsRefusedWord}
 use Rattle.refused_words.specs.Ends.{IsEndedBy}
 use Rattle.refused_words.specs.Limits.{QuantityValue, quantity_value, limit_of}
 use Rattle.refused_words.specs.declared.limits.Quantity.{Quantity}
-use Rattle.explain_top.specs.Fields.{fields_text}
+use Rattle.explain_top.specs.Columns.{columns_text}
 use Rattle.explain_top.specs.declared.answer.Verdict.{Verdict}
 use Rattle.explain_top.specs.declared.answer.Verdict.TheVariants as verdict
 
@@ -96,6 +96,7 @@ tells_names reasons.Twice = true
 tells_names reasons.Unknown = true
 tells_names reasons.Kind = true
 tells_names reasons.Outside = true
+tells_names reasons.Meets = true
 tells_names reasons.Arrivals = true
 tells_names _ = false
 
@@ -113,7 +114,7 @@ pub record AreNamed (format : Format) (given : List (List ℕ)) (number : ℕ) (
   pub more_is : more ≡ length (names_for format given number ws reason) - most
   pub each : (x : NamedWord) → Contains named x → IsNamedWord given number x
 
--- for Outside, the space over which the instance of the column is declared that is refused
+-- for Outside, the space over which the instance of the column is declared that is refused, or the data
 abbrev pub space_for : Format → List (List ℕ) → List (List ℕ) → ℕ → List (List ℕ) → Why → Option ℕ → Option (List ℕ)
 space_for format ls given number ws reasons.Outside (Some k) = space_word format ls given number ws k
 space_for format ls given number ws _ mark = None
@@ -143,7 +144,7 @@ advice_text g reason line mark = advice g.format (nat_lt 0 (length g.lines)) rea
 abbrev pub first_text : List (List ℕ) → ℕ → Why → List ℕ
 first_text ls number reason = mark_text number [] [] None ++ advice One false reason (refused_line ls number)
 
--- a text with what is told of a line that is refused behind a graph: the word that is, or that the whole line is, or for Missing that the text ends there; for Limit the first quantity that the line brings above its bound; the line that has done already what it would do; the names; for Outside the space of the column that is refused; for Unknown the fields that the instance has; and what the form of the line tells
+-- a text with what is told of a line that is refused behind a graph: the word that is, or that the whole line is, or for Missing that the text ends there; for Limit the first quantity that the line brings above its bound; the line that has done already what it would do; the names; for Outside the space of the column that is refused; of a column the fields that there are for Unknown, of which kind it is for Kind, and for Meets how accesses may meet; and what the form of the line tells
 pub record IsMarkedText (ls : TextLines) (number : ℕ) (reason : Why) (g : GraphValue) (old new : List ℕ) : Type 0 where
   pub mark : Option ℕ
   pub is_mark : IsRefusedWord g reason (words_of ls.lines number) mark
@@ -156,7 +157,7 @@ pub record IsMarkedText (ls : TextLines) (number : ℕ) (reason : Why) (g : Grap
   pub are_named : AreNamed g.format (given_names ls.lines) number (words_of ls.lines number) reason (most_names ls (words_of ls.lines number)) named more
   pub space : Option NamedWord
   pub is_space : TellsSpace g.format ls.lines (given_names ls.lines) number (words_of ls.lines number) reason mark space
-  pub text : new ≡ old ++ (refused_text reason number (refused_line ls.lines number) (words_of ls.lines number) mark ++ (limit_text limit ++ (ended_text g ls ended ++ ((names_text ls.lines named more ++ space_text ls.lines space) ++ (fields_text g (words_of ls.lines number) reason mark ++ advice_text g reason (refused_line ls.lines number) mark)))))
+  pub text : new ≡ old ++ (refused_text reason number (refused_line ls.lines number) (words_of ls.lines number) mark ++ (limit_text limit ++ (ended_text g ls ended ++ ((names_text ls.lines named more ++ space_text ls.lines space) ++ (columns_text g (words_of ls.lines number) reason mark ++ advice_text g reason (refused_line ls.lines number) mark)))))
 
 -- the text on a refused line, behind the graph of the lines above it where it is between the first line and the closing one
 abbrev pub IsUnreadText : TextLines → ℕ → Why → Option GraphValue → List ℕ → Type 0

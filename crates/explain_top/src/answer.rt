@@ -15,7 +15,7 @@ ghost use Rattle.graph_words.specs.Text.{GraphText};
 ghost use Rattle.race_check.specs.Refusal.{IsRefusal, NamesLines};
 
 use crate::accepted::put_accepted;
-use crate::fields::put_fields;
+use crate::columns::put_columns;
 use checked_graph::Checked;
 use explain_graph::explain;
 use explain_text::bounds::{MAX_ANSWER, MAX_NAMES, MAX_WHOLE};
@@ -341,7 +341,7 @@ fn put_clashes(
     put_limit(text, passed)?;
     put_ended(text, graph, lines, ended)?;
     put_names(text, pieces, &named, &space)?;
-    put_fields(alloc, text, graph, words.as_slice(), why, mark)?;
+    put_columns(alloc, text, graph, words.as_slice(), why, mark)?;
     put_advice(alloc, text, graph, why, line, mark)
 }
 
@@ -392,9 +392,8 @@ fn named_for<'a>(
     ensures inside { IfOk result (λ v. (x : NamedWord) → Contains v.told.items x → IsInside (length names.now) x) }
 {
     match why {
-        Why::Twice | Why::Unknown | Why::Kind | Why::Outside | Why::Arrivals => {
-            named_words(alloc, format, names, number, words, most)
-        }
+        Why::Twice | Why::Unknown | Why::Kind | Why::Outside | Why::Meets | Why::Arrivals =>
+            named_words(alloc, format, names, number, words, most),
         _ => Ok(NamedWords {
             told: Vec::new(alloc),
             more: 0,

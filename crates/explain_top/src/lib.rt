@@ -3,6 +3,7 @@
 
 mod accepted;
 pub mod answer;
+mod columns;
 mod fields;
 pub mod program;
 

@@ -3,7 +3,7 @@ use Rattle.std.specs.Prelude.{◌≡◌, ℕ, ◌<◌, ◌≤◌, ◌⊎◌, Boo
 use Rattle.index_spaces.specs.Space.{has_point}
 use Rattle.graph_terms.specs.declared.verb.Access.{Access}
 use Rattle.graph_terms.specs.Graph.{GraphValue, space_at}
-use Rattle.graph_terms.specs.Access.{accesses, modes_clash}
+use Rattle.graph_terms.specs.Access.{all_accesses, modes_clash}
 use Rattle.explanations.specs.declared.races.SharedPoint.{SharedPoint}
 
 -- two uses of one column, each over a space that has the point, in modes that clash
@@ -15,7 +15,7 @@ pub record MeetAt (g : GraphValue) (a b : Access) (p : ℕ) : Type 0 where
 
 -- a use by line i and one by line j
 abbrev pub AreUses : GraphValue → ℕ → ℕ → Access → Access → Type 0
-AreUses g i j a b = Contains (accesses g i) a × Contains (accesses g j) b
+AreUses g i j a b = Contains (all_accesses g i) a × Contains (all_accesses g j) b
 
 -- of these pairs of uses these two meet at the point, and no two meet in a lesser column or, in this column, at a lesser point
 pub record IsLeastShared (g : GraphValue) (among : Access → Access → Type 0) (s : SharedPoint) : Type 0 where

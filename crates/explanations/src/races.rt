@@ -3,16 +3,16 @@
 ghost use Rattle.std.specs.Prelude.{◌≡◌, ℕ, ◌<◌, ◌≤◌, length, Contains, None, IsTrue, IfOk, IfSome};
 ghost use Rattle.index_spaces.specs.Space.{has_point};
 ghost use Rattle.graph_terms.specs.Graph.{named_spaces};
-ghost use Rattle.graph_terms.specs.Access.{accesses, modes_clash, Conflict};
+ghost use Rattle.graph_terms.specs.Access.{all_accesses, modes_clash, Conflict};
 ghost use Rattle.graph_meaning.specs.Path.{HasPath};
 ghost use Rattle.graph_meaning.specs.Rules.{IsRace};
 ghost use Rattle.explanations.specs.Meetings.{IsNearestCommon};
 ghost use Rattle.explanations.specs.Shared.{AreUses, IsLeastShared, IsLeastAmong, lesser_of, is_before};
 
 use crate::meetings::{Meeting, nearest_common};
-use graph_meaning::line_laws::{accesses_are_few, accesses_fit};
+use graph_meaning::line_laws::{all_accesses_are_few, all_accesses_fit};
 use graph_model::graph::Graph;
-use graph_terms::limits::MOST_ACCESSES;
+use graph_terms::limits::MAX_CALL_ACCESSES;
 use graph_terms::verb::{Access, Mode};
 use index_spaces::NoMemory;
 use index_spaces::laws::{point_of_rank, points_ascend, rank_of_point};
@@ -89,12 +89,12 @@ pub fn least_shared(
     ensures least { IfOk result (IsLeastAmong graph.now (AreUses graph.now first second)) }
     ensures none { IfOk result (λ o. o ≡ None → Conflict graph.now first second → ⊥) }
 {
-    accesses_are_few();
-    accesses_fit();
+    all_accesses_are_few();
+    all_accesses_fit();
     let _ = graph.lines();
     let mut best = None;
-    for k in 0..MOST_ACCESSES {
-        let Some(one) = graph.access(first, k) else {
+    for k in 0..MAX_CALL_ACCESSES {
+        let Some(one) = graph.any_access(first, k) else {
             return Ok(best);
         };
         let found = shared_with(alloc, graph, one, second)?;
@@ -112,14 +112,14 @@ fn shared_with(
 ) -> Result<Option<SharedPoint>, NoMemory>
     requires space { one.space < length (named_spaces graph.now) }
     requires line { line < length graph.now.lines }
-    ensures { IfOk result (IsLeastAmong graph.now (λ a b. (a ≡ one) × Contains (accesses graph.now line) b)) }
+    ensures { IfOk result (IsLeastAmong graph.now (λ a b. (a ≡ one) × Contains (all_accesses graph.now line) b)) }
 {
-    accesses_are_few();
-    accesses_fit();
+    all_accesses_are_few();
+    all_accesses_fit();
     let _ = graph.lines();
     let mut best = None;
-    for k in 0..MOST_ACCESSES {
-        let Some(other) = graph.access(line, k) else {
+    for k in 0..MAX_CALL_ACCESSES {
+        let Some(other) = graph.any_access(line, k) else {
             return Ok(best);
         };
         let found = shared_by(alloc, graph, one, other)?;

@@ -1,9 +1,10 @@
 -- A graph whose paths between the lines of a flow are the flow's chains, and whose sections stand, is accepted.
-use Rattle.std.proofs.Common.{◌≡◌, ℕ, ◌+◌, ◌<◌, Bool, true, false, ◌&&◌, ◌⊎◌, inl, inr, List, [], length, refl, sym, ◌∙◌, ap, subst, arith}
+use Rattle.std.proofs.Common.{◌≡◌, ℕ, ◌+◌, ◌<◌, Bool, true, false, ◌&&◌, ◌⊎◌, inl, inr, List, [], ◌++◌, length, refl, sym, ◌∙◌, ap, subst, arith}
 use Rattle.std.specs.Prelude.{Contains, Option, Some, None, nat_lt, map, slice_get, option_map, ◌==◌}
 use Rattle.std.specs.Option.{option_map_or}
 use Rattle.std.specs.List.{list_any}
 use Rattle.std.proofs.lemmas.Bool.{true≢false, cases_Bool, eq-eqb, lt-ltb, false_from_ne_true}
+use Rattle.std.proofs.lemmas.List.{append-nil}
 use Rattle.std.proofs.lemmas.Option.{same_Some}
 use Rattle.index_spaces.specs.Space.{has_point, points, Meet}
 use Rattle.index_spaces.specs.Laws.{PointsAreListed}
@@ -14,11 +15,11 @@ use Rattle.graph_terms.specs.declared.verb.Edge.{Edge}
 use Rattle.graph_terms.specs.declared.verb.EdgeKind.TheVariants.{Passes, Ignores}
 use Rattle.graph_terms.specs.declared.verb.Line.{Line}
 use Rattle.graph_terms.specs.declared.verb.Verb.{Verb}
-use Rattle.graph_terms.specs.declared.verb.Verb.TheVariants.{User, Trigger, Cancel, Merge, MergeIgnore, Phase, Arrive, Acquire, Release, Fill, Copy, Reduce, Task}
+use Rattle.graph_terms.specs.declared.verb.Verb.TheVariants.{Arrive, Acquire, Fill, Copy, Reduce, Task, Call}
 use Rattle.graph_terms.specs.Graph.{GraphValue, is_phase, is_acquire_of, is_release_of, is_merge_ignore, is_shared, verb_at, line_passes, space_at}
 use Rattle.graph_meaning.specs.Path.{Path, HasPath, last, first}
 use Rattle.graph_terms.specs.Edges.{edge}
-use Rattle.graph_terms.specs.Access.{verb_accesses, in_format, accesses, modes_clash, AccessesConflict, Conflict}
+use Rattle.graph_terms.specs.Access.{verb_accesses, call_accesses, behind_columns, in_format, accesses, all_accesses, modes_clash, AccessesConflict, Conflict}
 use Rattle.graph_terms.specs.Reservations.{Acquires, Releases}
 use Rattle.graph_meaning.specs.Rules.{Section, modes_commute, Exempt, NoCycleAt, ReleasedAt, SectionAt, DescendsAt, stands_on_merges, ReleaseFaultAt, RaceAt, Everywhere, EverywhereTwice, Accepted}
 use Rattle.graph_terms.specs.Fits.{IsGraph}
@@ -47,20 +48,23 @@ back_one {all} a b j into p = let s = last_edge p in subst (UpTo all j) (into s.
 
 -- lines that only order use no column, and those that use columns order nothing
 alone_accesses : (v : Verb) → orders_alone v ≡ true → verb_accesses v ≡ []
-alone_accesses User h = refl
-alone_accesses (Trigger k) h = refl
-alone_accesses (Cancel k) h = refl
-alone_accesses (Merge ks) h = refl
-alone_accesses (MergeIgnore ks) h = refl
-alone_accesses (Phase k) h = refl
 alone_accesses (Arrive k w weight) h = arrive_accesses k w weight
-alone_accesses (Acquire k true) h = refl
-alone_accesses (Acquire k false) h = refl
-alone_accesses (Release k) h = refl
 alone_accesses (Fill t s w) h = absurd (true≢false (sym h))
 alone_accesses (Copy x y s) h = absurd (true≢false (sym h))
 alone_accesses (Reduce o x y s) h = absurd (true≢false (sym h))
 alone_accesses (Task k) h = absurd (true≢false (sym h))
+alone_accesses (Acquire l true) h = refl
+alone_accesses (Acquire l false) h = refl
+alone_accesses v h = refl
+
+-- neither kind is a call
+alone_calls : (v : Verb) → orders_alone v ≡ true → call_accesses v ≡ []
+alone_calls (Call call) h = absurd (true≢false (sym h))
+alone_calls v h = refl
+
+uses_calls : (v : Verb) → uses_columns v ≡ true → call_accesses v ≡ []
+uses_calls (Call call) h = absurd (true≢false (sym h))
+uses_calls v h = refl
 
 alone_not_shared : (v : Verb) → orders_alone v ≡ true → is_shared v ≡ false
 alone_not_shared (Acquire l true) h = absurd (true≢false (sym h))
@@ -75,19 +79,11 @@ abbrev PlainVerb : ℕ → Verb → Type 0
 PlainVerb l v = (is_phase v ≡ false) × (is_acquire_of l v ≡ false)
 
 uses_plain : (l : ℕ) (v : Verb) → uses_columns v ≡ true → PlainVerb l v
-uses_plain l User h = absurd (true≢false (sym h))
-uses_plain l (Trigger k) h = absurd (true≢false (sym h))
-uses_plain l (Cancel k) h = absurd (true≢false (sym h))
-uses_plain l (Merge ks) h = absurd (true≢false (sym h))
-uses_plain l (MergeIgnore ks) h = absurd (true≢false (sym h))
-uses_plain l (Phase k) h = absurd (true≢false (sym h))
-uses_plain l (Arrive k w weight) h = absurd (true≢false (sym h))
-uses_plain l (Acquire k shared) h = absurd (true≢false (sym h))
-uses_plain l (Release k) h = absurd (true≢false (sym h))
 uses_plain l (Fill t s w) h = (refl, refl)
 uses_plain l (Copy x y s) h = (refl, refl)
 uses_plain l (Reduce o x y s) h = (refl, refl)
 uses_plain l (Task k) h = (refl, refl)
+uses_plain l v h = absurd (true≢false (sym h))
 
 -- two uses that clash although their order doesn't count are sums that commute
 abbrev CommutingSums : Bool → Mode → Mode → Type 0
@@ -196,6 +192,19 @@ module _ (listed : PointsAreListed) (f : GraphValue) (commute : Bool) (g : Graph
     | inr alone ↦ absurd (contains_none a (subst (λ (xs : List Access). Contains xs a) (alone_accesses l.verb alone) c))
   ]
 
+  -- no line is a call
+  no_calls : (i : ℕ) (x : Option Line) → slice_get g.lines i ≡ x → option_map_or call_accesses (option_map (λ (l : Line). l.verb) x) [] ≡ []
+  no_calls i None e = refl
+  no_calls i (Some l) e = elim (k.others i l e) [
+    | inl r ↦ (let u = place_uses f commute g place flow fits fwd k o r.0 r.1 in
+        let there : u.0 ≡ l = same_Some u.0 l (sym u.1 ∙ (ap (slice_get g.lines) r.2 ∙ e)) in
+        ap (λ (x : Line). call_accesses x.verb) (sym there) ∙ uses_calls u.0.verb u.2)
+    | inr alone ↦ alone_calls l.verb alone
+  ]
+
+  all_accesses_are : (i : ℕ) → all_accesses g i ≡ accesses g i
+  all_accesses_are i = ap (λ xs. accesses g i ++ map (behind_columns g) xs) (no_calls i (slice_get g.lines i) refl) ∙ append-nil (accesses g i)
+
   -- no acquire is shared
   not_shared : (i : ℕ) (x : Option Line) → slice_get g.lines i ≡ x → option_map_or is_shared (option_map (λ (l : Line). l.verb) x) false ≡ false
   not_shared i None e = refl
@@ -208,6 +217,9 @@ module _ (listed : PointsAreListed) (f : GraphValue) (commute : Bool) (g : Graph
 
   same_accesses : (m : ℕ) → m < length f.lines → accesses g (place m) ≡ accesses f m
   same_accesses m h = ap (λ form. map (in_format form) (option_map_or verb_accesses (verb_at g (place m)) [])) k.format ∙ ap (λ v. map (in_format f.format) (option_map_or verb_accesses v [])) (place_uses f commute g place flow fits fwd k o m h).3
+
+  same_at_all : (m : ℕ) → m < length f.lines → all_accesses g (place m) ≡ accesses f m
+  same_at_all m h = all_accesses_are (place m) ∙ same_accesses m h
 
   same_space : (s : ℕ) → space_at g s ≡ space_at f s
   same_space s = ap (λ (w : ℕ → List (ℕ × ℕ)). w s) (spaces_same f commute g place flow fits fwd k o)
@@ -239,7 +251,7 @@ module _ (listed : PointsAreListed) (f : GraphValue) (commute : Bool) (g : Graph
 
     exempt : AreApart g (place m) (place n) → Exempt g (place m) (place n)
     exempt p = record {
-      commute = λ a b c d x. (are_sums a b (subst (λ (xs : List Access). Contains xs a) (same_accesses m m_below) c) (subst (λ (xs : List Access). Contains xs b) (same_accesses n n_below) d) x).3;
+      commute = λ a b c d x. (are_sums a b (subst (λ (xs : List Access). Contains xs a) (same_at_all m m_below) c) (subst (λ (xs : List Access). Contains xs b) (same_at_all n n_below) d) x).3;
       lock = p.lock;
       one = p.one;
       other = p.other;
@@ -251,8 +263,8 @@ module _ (listed : PointsAreListed) (f : GraphValue) (commute : Bool) (g : Graph
 
     loose_race : Conflict g (place m) (place n) → HasPath g (place m) (place n) ⊎ (HasPath g (place n) (place m) ⊎ Exempt g (place m) (place n))
     loose_race c =
-        let a_in = subst (λ (xs : List Access). Contains xs c.one) (same_accesses m m_below) c.one_in in
-        let b_in = subst (λ (xs : List Access). Contains xs c.other) (same_accesses n n_below) c.other_in in
+        let a_in = subst (λ (xs : List Access). Contains xs c.one) (same_at_all m m_below) c.one_in in
+        let b_in = subst (λ (xs : List Access). Contains xs c.other) (same_at_all n n_below) c.other_in in
         let s = are_sums c.one c.other a_in b_in c.conflict in
         elim (stand.rivals m n c.one c.other less n_below s.0 a_in b_in s.1 s.2 c.conflict.column (meets_in_flow c.one c.other c.conflict)) [
           | inl chain ↦ inl (path_all g (o.enough m n m_below n_below chain))
@@ -269,8 +281,8 @@ module _ (listed : PointsAreListed) (f : GraphValue) (commute : Bool) (g : Graph
 
   races : EverywhereTwice (RaceAt g)
   races i j less c =
-      let p = map_contains (in_format g.format) (option_map_or verb_accesses (verb_at g i) []) c.one c.one_in in
-      let q = map_contains (in_format g.format) (option_map_or verb_accesses (verb_at g j) []) c.other c.other_in in
+      let p = map_contains (in_format g.format) (option_map_or verb_accesses (verb_at g i) []) c.one (subst (λ (xs : List Access). Contains xs c.one) (all_accesses_are i) c.one_in) in
+      let q = map_contains (in_format g.format) (option_map_or verb_accesses (verb_at g j) []) c.other (subst (λ (xs : List Access). Contains xs c.other) (all_accesses_are j) c.other_in) in
       let m = used_line i p.0 (slice_get g.lines i) refl p.1 in
       let n = used_line j q.0 (slice_get g.lines j) refl q.1 in
       let at_places : RaceAt g i j = subst (λ x. RaceAt g x j) m.2 (subst (λ y. RaceAt g (place m.0) y) n.2 (race_of m.0 n.0 m.1 n.1)) in

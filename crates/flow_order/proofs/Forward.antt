@@ -13,7 +13,7 @@ use Rattle.graph_terms.specs.declared.verb.EdgeKind.TheVariants.{Passes, Ignores
 use Rattle.graph_terms.specs.declared.format.Format.{Format}
 use Rattle.graph_terms.specs.declared.verb.Line.{Line}
 use Rattle.graph_terms.specs.declared.verb.Verb.{Verb}
-use Rattle.graph_terms.specs.declared.verb.Verb.TheVariants.{User, Trigger, Cancel, Merge, MergeIgnore, Phase, Arrive, Acquire, Release, Fill, Copy, Reduce, Task}
+use Rattle.graph_terms.specs.declared.verb.Verb.TheVariants.{User, Trigger, Cancel, Merge, MergeIgnore, Phase, Arrive}
 use Rattle.graph_terms.specs.Graph.{GraphValue, never_comes}
 use Rattle.graph_terms.specs.Edges.{edge, on_edges, verb_edges, line_edges, edges_after, edges, sources}
 use Rattle.graph_meaning.specs.Path.{Path, HasPath, last, first}
@@ -40,12 +40,7 @@ verb_rises b (Merge ks) f h e c = let m = map_contains (λ e. edge e (length b) 
 verb_rises b (MergeIgnore ks) f h e c = let m = map_contains (λ e. edge e (length b) Ignores) ks e c in edge_rises m.0 (length b) Ignores e m.2 (h m.0 m.1)
 verb_rises b (Phase p) f h e c = absurd (true≢false (sym f))
 verb_rises b (Arrive p w weight) f h e c = absurd (true≢false (sym f))
-verb_rises b (Acquire l shared) f h e c = absurd (contains_none e c)
-verb_rises b (Release q) f h e c = absurd (contains_none e c)
-verb_rises b (Fill t s w) f h e c = absurd (contains_none e c)
-verb_rises b (Copy x y s) f h e c = absurd (contains_none e c)
-verb_rises b (Reduce o x y s) f h e c = absurd (contains_none e c)
-verb_rises b (Task k) f h e c = absurd (contains_none e c)
+verb_rises b v f h e c = absurd (contains_none e c)
 
 line_rises : (format : Format) (decls : List Decl) (b : List Line) (l : Line) → line_fault (record { «format» = format; decls = decls; lines = b }) l ≡ None → leads_forward l.verb ≡ true → (e : Edge) → Contains (line_edges b l) e → e.from < e.to
 line_rises format decls b l fits f e c =

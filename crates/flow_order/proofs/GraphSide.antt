@@ -10,7 +10,7 @@ use Rattle.graph_terms.specs.declared.verb.EdgeKind.{EdgeKind}
 use Rattle.graph_terms.specs.declared.verb.EdgeKind.TheVariants.{Passes, Ignores, Faults}
 use Rattle.graph_terms.specs.declared.verb.Line.{Line}
 use Rattle.graph_terms.specs.declared.verb.Verb.{Verb}
-use Rattle.graph_terms.specs.declared.verb.Verb.TheVariants.{User, Trigger, Cancel, Merge, MergeIgnore, Phase, Arrive, Acquire, Release, Fill, Copy, Reduce, Task}
+use Rattle.graph_terms.specs.declared.verb.Verb.TheVariants.{User, Trigger, Cancel, Merge, MergeIgnore, Phase, Arrive}
 use Rattle.graph_terms.specs.Graph.{GraphValue}
 use Rattle.graph_terms.specs.Edges.{edge, on_edges, verb_edges, line_edges, edges_after, edges}
 use Rattle.graph_meaning.specs.Path.{Path, last, first}
@@ -37,12 +37,7 @@ verb_kind b (Merge ks) f e c = let m = map_contains (λ e. edge e (length b) Pas
 verb_kind b (MergeIgnore ks) f e c = let m = map_contains (λ e. edge e (length b) Ignores) ks e c in edge_kind m.0 (length b) Ignores e m.2 (λ h. cc)
 verb_kind b (Phase p) f e c = absurd (true≢false (sym f))
 verb_kind b (Arrive p w weight) f e c = absurd (true≢false (sym f))
-verb_kind b (Acquire l shared) f e c = absurd (contains_none e c)
-verb_kind b (Release q) f e c = absurd (contains_none e c)
-verb_kind b (Fill t s w) f e c = absurd (contains_none e c)
-verb_kind b (Copy x y s) f e c = absurd (contains_none e c)
-verb_kind b (Reduce o x y s) f e c = absurd (contains_none e c)
-verb_kind b (Task k) f e c = absurd (contains_none e c)
+verb_kind b v f e c = absurd (contains_none e c)
 
 lines_kind : (b ls : List Line) → ((l : Line) → Contains ls l → leads_forward l.verb ≡ true) → (e : Edge) → Contains (edges_after b ls) e → e.kind ≢ Faults
 lines_kind b [] f e c = absurd (contains_none e c)

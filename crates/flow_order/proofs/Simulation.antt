@@ -15,7 +15,7 @@ use Rattle.graph_terms.specs.declared.outcome.End.TheVariants.{Faulted, Cancelle
 use Rattle.graph_terms.specs.declared.verb.Edge.{Edge}
 use Rattle.graph_terms.specs.declared.verb.Line.{Line}
 use Rattle.graph_terms.specs.declared.verb.Verb.{Verb}
-use Rattle.graph_terms.specs.declared.verb.Verb.TheVariants.{User, Trigger, Cancel, Merge, MergeIgnore, Phase, Arrive, Acquire, Release, Fill, Copy, Reduce, Task}
+use Rattle.graph_terms.specs.declared.verb.Verb.TheVariants.{Merge, MergeIgnore, Acquire, Release, Fill, Copy, Reduce, Task}
 use Rattle.graph_terms.specs.Graph.{GraphValue, space_of, named_spaces, space_at, verb_at}
 use Rattle.graph_terms.specs.Edges.{edges}
 use Rattle.graph_meaning.specs.Path.{Path, HasPath, last, first}
@@ -47,37 +47,21 @@ bools_agree false false h i = refl
 
 -- lines that only order do nothing
 pub alone_uses : (v : Verb) → orders_alone v ≡ true → uses_columns v ≡ true → ⊥
-alone_uses User h u = true≢false (sym h)
-alone_uses (Trigger k) h u = true≢false (sym h)
-alone_uses (Cancel k) h u = true≢false (sym h)
 alone_uses (Merge ks) h u = true≢false (sym u)
 alone_uses (MergeIgnore ks) h u = true≢false (sym u)
-alone_uses (Phase k) h u = true≢false (sym h)
-alone_uses (Arrive k w weight) h u = true≢false (sym h)
 alone_uses (Acquire k shared) h u = true≢false (sym u)
 alone_uses (Release k) h u = true≢false (sym u)
-alone_uses (Fill t s w) h u = true≢false (sym h)
-alone_uses (Copy x y s) h u = true≢false (sym h)
-alone_uses (Reduce o x y s) h u = true≢false (sym h)
-alone_uses (Task k) h u = true≢false (sym h)
+alone_uses v h u = true≢false (sym h)
 
 abbrev DoesNothing : (ℕ → List (ℕ × ℕ)) → Cells → Verb → Type 0
 DoesNothing space cells v = (verb_verdict space cells v ≡ Fine) × (verb_changes space cells v ≡ [])
 
 alone_does : (space : ℕ → List (ℕ × ℕ)) (cells : Cells) (v : Verb) → orders_alone v ≡ true → DoesNothing space cells v
-alone_does space cells User h = (refl, refl)
-alone_does space cells (Trigger k) h = (refl, refl)
-alone_does space cells (Cancel k) h = (refl, refl)
-alone_does space cells (Merge ks) h = (refl, refl)
-alone_does space cells (MergeIgnore ks) h = (refl, refl)
-alone_does space cells (Phase k) h = (refl, refl)
-alone_does space cells (Arrive k w weight) h = (refl, refl)
-alone_does space cells (Acquire k shared) h = (refl, refl)
-alone_does space cells (Release k) h = (refl, refl)
 alone_does space cells (Fill t s w) h = absurd (true≢false (sym h))
 alone_does space cells (Copy x y s) h = absurd (true≢false (sym h))
 alone_does space cells (Reduce o x y s) h = absurd (true≢false (sym h))
 alone_does space cells (Task k) h = absurd (true≢false (sym h))
+alone_does space cells v h = (refl, refl)
 
 made_none : (v : Verdict) (cs : List CellChange) → cs ≡ [] → made_by v cs ≡ []
 made_none Fine cs h = h

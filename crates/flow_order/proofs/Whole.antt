@@ -8,7 +8,7 @@ use Rattle.std.proofs.lemmas.Option.{get_or_from_slice_get}
 use Rattle.index_spaces.specs.Laws.{PointsAreListed}
 use Rattle.graph_terms.specs.declared.verb.Line.{Line}
 use Rattle.graph_terms.specs.declared.verb.Verb.{Verb}
-use Rattle.graph_terms.specs.declared.verb.Verb.TheVariants.{User, Trigger, Cancel, Merge, MergeIgnore, Phase, Arrive, Acquire, Release, Fill, Copy, Reduce, Task}
+use Rattle.graph_terms.specs.declared.verb.Verb.TheVariants.{User, Trigger, Cancel, Phase, Arrive}
 use Rattle.graph_terms.specs.Graph.{GraphValue}
 use Rattle.graph_meaning.specs.Path.{Path, HasPath, last, first}
 use Rattle.graph_terms.specs.Fits.{IsGraph}
@@ -32,31 +32,17 @@ forward_uses : (v : Verb) → uses_columns v ≡ true → leads_forward v ≡ tr
 forward_uses User h = h
 forward_uses (Trigger k) h = h
 forward_uses (Cancel k) h = h
-forward_uses (Merge ks) h = refl
-forward_uses (MergeIgnore ks) h = refl
 forward_uses (Phase k) h = h
 forward_uses (Arrive k w weight) h = h
-forward_uses (Acquire k shared) h = refl
-forward_uses (Release k) h = refl
-forward_uses (Fill t s w) h = refl
-forward_uses (Copy x y s) h = refl
-forward_uses (Reduce o x y s) h = refl
-forward_uses (Task k) h = refl
+forward_uses v h = refl
 
 forward_alone : (v : Verb) → orders_alone v ≡ true → leads_forward v ≡ true
 forward_alone User h = h
 forward_alone (Trigger k) h = h
 forward_alone (Cancel k) h = h
-forward_alone (Merge ks) h = refl
-forward_alone (MergeIgnore ks) h = refl
 forward_alone (Phase k) h = h
 forward_alone (Arrive k w weight) h = h
-forward_alone (Acquire k shared) h = refl
-forward_alone (Release k) h = refl
-forward_alone (Fill t s w) h = refl
-forward_alone (Copy x y s) h = refl
-forward_alone (Reduce o x y s) h = refl
-forward_alone (Task k) h = refl
+forward_alone v h = refl
 
 module _ (f : GraphValue) (commute : Bool) (g : GraphValue) (place : ℕ → ℕ) (flow : IsFlow f) (fits : IsGraph g) (k : Keeps f g place) (s : SourcesStand f commute g place) where
   line_forward : (n : ℕ) (l : Line) → slice_get g.lines n ≡ Some l → leads_forward l.verb ≡ true

@@ -1,5 +1,5 @@
 -- The sources of each line of a flow, in parts.
-use Rattle.std.specs.Prelude.{ℕ, zero, suc, ◌+◌, ◌==◌, Bool, false, cond, not, ◌||◌, nat_le, List, [], ◌∷◌, ◌++◌, length, map, filter, flat_map, slice_index_or}
+use Rattle.std.specs.Prelude.{ℕ, zero, suc, ◌==◌, Bool, false, cond, not, ◌||◌, nat_le, List, [], ◌∷◌, ◌++◌, length, map, filter, flat_map, slice_index_or}
 use Rattle.std.specs.List.{list_any}
 use Rattle.graph_terms.specs.declared.format.Format.{Format}
 use Rattle.graph_terms.specs.declared.format.Format.TheVariants.{Three}

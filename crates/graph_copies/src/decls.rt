@@ -2,11 +2,11 @@
 
 ghost use Rattle.std.specs.Prelude.{◌≡◌, [], IfOk};
 
+use crate::lists::copy_of_items;
 use graph_model::graph::Graph;
 use graph_terms::decl::Decl;
 use graph_terms::format::Format;
 use graph_terms::limits::Limits;
-use graph_terms::lists::NameList;
 use index_spaces::NoMemory;
 use index_spaces::space::Space;
 use std::alloc::Global;
@@ -39,7 +39,16 @@ fn copy_of_decl(alloc: Global, decl: &Decl) -> Result<Decl, NoMemory>
         } => Ok(Decl::Inst {
             name: *name,
             space: *space,
-            fields: copy_of_names(alloc, fields)?,
+            fields: copy_of_items(alloc, fields)?,
+        }),
+        Decl::Data {
+            name,
+            space,
+            fields,
+        } => Ok(Decl::Data {
+            name: *name,
+            space: *space,
+            fields: copy_of_items(alloc, fields)?,
         }),
         Decl::Lock { name } => Ok(Decl::Lock { name: *name }),
         Decl::Barrier {
@@ -69,15 +78,4 @@ fn copy_of_space(alloc: Global, space: &Space) -> Result<Space, NoMemory>
         Ok(copy) => Ok(copy),
         Err(_) => Err(NoMemory),
     }
-}
-
-/// A copy of a list of names.
-fn copy_of_names(alloc: Global, names: &NameList) -> Result<NameList, NoMemory>
-    ensures { IfOk result (λ n. n ≡ names.now) }
-{
-    let mut copy = NameList::new(alloc);
-    for name in names.items.as_slice() {
-        copy.push(*name)?;
-    }
-    Ok(copy)
 }

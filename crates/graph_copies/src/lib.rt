@@ -3,6 +3,7 @@
 
 mod decls;
 mod lines;
+mod lists;
 
 pub use decls::declared;
 pub use lines::copy_of_line;

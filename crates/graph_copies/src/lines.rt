@@ -3,7 +3,9 @@
 ghost use Rattle.std.specs.Prelude.{◌≡◌, None, IfOk};
 ghost use Rattle.graph_terms.specs.Table.{verb_kind};
 
-use graph_terms::lists::{EventList, LineList};
+use crate::lists::copy_of_items;
+use graph_terms::call::{Call, CallParts};
+use graph_terms::lists::EventList;
 use graph_terms::verb::{Line, Verb};
 use index_spaces::NoMemory;
 use std::alloc::Global;
@@ -25,35 +27,39 @@ fn copy_of_verb(alloc: Global, verb: &Verb) -> Result<Verb, NoMemory>
 {
     match verb.kind() {
         Some(kind) => Ok(Verb::of(kind, &verb.parts())),
-        None => copy_of_merge(alloc, verb),
+        None => copy_of_lists(alloc, verb),
     }
 }
 
-/// A copy of a merge.
-fn copy_of_merge(alloc: Global, verb: &Verb) -> Result<Verb, NoMemory>
+/// A copy of a merge or a call.
+fn copy_of_lists(alloc: Global, verb: &Verb) -> Result<Verb, NoMemory>
     requires { verb_kind verb.now ≡ None }
     ensures { IfOk result (λ v. v ≡ verb.now) }
 {
     match verb {
         Verb::Merge { events } => Ok(Verb::Merge {
-            events: copy_of_lines(alloc, events)?,
+            events: copy_of_items(alloc, events)?,
         }),
         Verb::MergeIgnore { events } => Ok(Verb::MergeIgnore {
-            events: copy_of_lines(alloc, events)?,
+            events: copy_of_items(alloc, events)?,
+        }),
+        Verb::Call { call } => Ok(Verb::Call {
+            call: copy_of_call(alloc, call)?,
         }),
         _ => unreachable!(),
     }
 }
 
-/// A copy of a list of lines.
-fn copy_of_lines(alloc: Global, lines: &LineList) -> Result<LineList, NoMemory>
-    ensures { IfOk result (λ l. l ≡ lines.now) }
+/// A copy of a call.
+fn copy_of_call(alloc: Global, call: &Call) -> Result<Call, NoMemory>
+    ensures { IfOk result (λ c. c ≡ call.now) }
 {
-    let mut copy = LineList::new(alloc);
-    for line in lines.items.as_slice() {
-        copy.push(*line)?;
-    }
-    Ok(copy)
+    let parts = CallParts {
+        word: *call.word(),
+        values: copy_of_items(alloc, call.values())?,
+        accesses: copy_of_items(alloc, call.accesses())?,
+    };
+    Call::new(alloc, parts)
 }
 
 /// A copy of a list of events.

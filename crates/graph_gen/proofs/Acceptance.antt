@@ -1,9 +1,10 @@
 -- A generated graph is accepted.
-use Rattle.std.proofs.Common.{◌≡◌, ℕ, zero, suc, ◌+◌, ◌^◌, ◌<◌, ◌≤◌, true, false, ◌&&◌, ◌⊎◌, inl, inr, List, [], ◌∷◌, length, refl, sym, ◌∙◌, ap, ap₂, subst, arith}
-use Rattle.std.specs.Prelude.{Contains, Option, Some, slice_get, option_map}
+use Rattle.std.proofs.Common.{◌≡◌, ℕ, zero, suc, ◌+◌, ◌^◌, ◌<◌, ◌≤◌, true, false, ◌&&◌, ◌⊎◌, inl, inr, List, [], ◌∷◌, ◌++◌, length, map, refl, sym, ◌∙◌, ap, ap₂, subst, append-nil, arith}
+use Rattle.std.specs.Prelude.{Contains, Option, Some, None, slice_get, option_map}
 use Rattle.std.specs.Option.{option_map_or}
 use Rattle.std.proofs.lemmas.Bool.{true≢false, eq-eqb, and_left}
 use Rattle.std.proofs.lemmas.Option.{same_Some}
+use Rattle.graph_terms.specs.declared.format.Format.TheVariants.{One}
 use Rattle.graph_terms.specs.declared.verb.Access.{Access}
 use Rattle.graph_terms.specs.declared.verb.Edge.{Edge}
 use Rattle.graph_terms.specs.declared.verb.EdgeKind.TheVariants.{Passes, Ignores}
@@ -13,13 +14,15 @@ use Rattle.graph_terms.specs.declared.verb.Verb.{Verb}
 use Rattle.graph_terms.specs.declared.verb.Verb.TheVariants as verb
 use Rattle.graph_terms.specs.Graph.{GraphValue, is_phase, is_acquire_of, is_shared, is_release_of, is_merge_ignore, line_passes}
 use Rattle.graph_meaning.specs.Path.{Path, HasPath, last, first}
-use Rattle.graph_terms.specs.Access.{access, modes_clash, AccessesConflict}
+use Rattle.graph_terms.specs.Access.{access, modes_clash, AccessesConflict, call_accesses, behind_columns, all_accesses}
 use Rattle.graph_terms.specs.Edges.{edge}
+use Rattle.graph_terms.specs.Fits.{format_lacks, LinesFit}
 use Rattle.graph_terms.specs.Reservations.{Releases}
 use Rattle.graph_meaning.specs.Rules.{Section, modes_commute, Exempt, NoCycleAt, ReleasedAt, SectionAt, DescendsAt, stands_on_merges, ReleaseFaultAt, RaceAt, Everywhere, EverywhereTwice, Accepted}
 use Rattle.basics.proofs.ListFacts.{contains_cases, contains_none}
 use Rattle.graph_meaning.proofs.Public.{path_append}
-use Rattle.graph_gen.specs.MadeGraph.{next_state, row_lines, total_column, made_line, Made, unmade, drawn, after_draws, made_graph}
+use Rattle.graph_terms.proofs.Public.{fit_at, kind_fits}
+use Rattle.graph_gen.specs.MadeGraph.{made_decls, next_state, row_lines, total_column, made_line, Made, unmade, drawn, after_draws, made_graph}
 use Rattle.graph_gen.proofs.Standing.{lined}
 use Rattle.graph_gen.proofs.Draws.{next_draw, next_row, draw_column, draw_other, Kept, kept_draws, one_more_is, stays}
 use Rattle.graph_gen.proofs.AddedLines.{verb_in, uses_of, uses_in, edges_in, old_or_new, UpTo, last_edge}
@@ -27,7 +30,22 @@ use Rattle.graph_gen.proofs.Shapes.{weight, Held, Shape, shape_more}
 use Rattle.graph_gen.proofs.RowShapes.{row_shape}
 use Rattle.graph_gen.proofs.Columns.{Ordered, row_ordered}
 
-module _ (ls : List Line) (shape : Shape ls) where
+-- no verb of format 1 is a call
+no_calls : (v : Verb) → format_lacks One v ≡ false → call_accesses v ≡ []
+no_calls (verb.Call call) e = absurd (true≢false e)
+no_calls v e = refl
+
+-- so lines that fit access columns with cells alone
+cells_alone : (ls : List Line) → LinesFit One made_decls [] ls → (i : ℕ) → all_accesses (lined ls) i ≡ uses_in ls i
+cells_alone ls fit i = ap (λ given. uses_in ls i ++ map (behind_columns (lined ls)) given) (by_line (slice_get ls i) refl) ∙ append-nil (uses_in ls i)
+  where
+    by_line : (o : Option Line) → slice_get ls i ≡ o → option_map_or call_accesses (option_map (λ (l : Line). l.verb) o) [] ≡ []
+    by_line None e = refl
+    by_line (Some l) e =
+        let fits = fit_at One made_decls [] ls fit i l e in
+        no_calls l.verb (kind_fits (record { format = One; decls = made_decls; lines = fits.0 }) l fits.1).2
+
+module _ (ls : List Line) (shape : Shape ls) (fit : LinesFit One made_decls [] ls) where
   abbrev g : GraphValue
   g = lined ls
 
@@ -130,9 +148,13 @@ module _ (ls : List Line) (shape : Shape ls) where
         ]
       ]
 
+  -- what a line uses is of a column with cells
+  use_of : (i : ℕ) (a : Access) → Contains (all_accesses g i) a → Contains (uses_in ls i) a
+  use_of i a c = subst (λ given. Contains given a) (cells_alone ls fit i) c
+
   exempt : (q r i j : ℕ) → Held ls q → i ≡ q + 1 → Held ls r → j ≡ r + 1 → i < j → Exempt g i j
   exempt q r i j h e k f less = record {
-    commute = commute q r i j h e k f;
+    commute = λ a b c d x. commute q r i j h e k f a b (use_of i a c) (use_of j b d) x;
     lock = 0;
     one = q;
     other = r;
@@ -144,10 +166,10 @@ module _ (ls : List Line) (shape : Shape ls) where
 
   module _ (lasts : List (Option ℕ)) (ordered : Ordered ls lasts) where
     races : EverywhereTwice (RaceAt g)
-    races i j less c = elim (shape.uses i c.one c.one_in) [
-      | inl small ↦ inl (ordered.paths c.one.column i j small (c.one, c.one_in, refl) (c.other, c.other_in, sym c.conflict.column) less)
-      | inr one ↦ elim (shape.uses j c.other c.other_in) [
-        | inl small ↦ inl (ordered.paths c.other.column i j small (c.one, c.one_in, c.conflict.column) (c.other, c.other_in, refl) less)
+    races i j less c = elim (shape.uses i c.one (use_of i c.one c.one_in)) [
+      | inl small ↦ inl (ordered.paths c.one.column i j small (c.one, use_of i c.one c.one_in, refl) (c.other, use_of j c.other c.other_in, sym c.conflict.column) less)
+      | inr one ↦ elim (shape.uses j c.other (use_of j c.other c.other_in)) [
+        | inl small ↦ inl (ordered.paths c.other.column i j small (c.one, use_of i c.one c.one_in, c.conflict.column) (c.other, use_of j c.other c.other_in, refl) less)
         | inr other ↦ inr (inr (exempt one.0 other.0 i j one.2 one.1 other.2 other.1 less))
       ]
     ]
@@ -195,4 +217,4 @@ sound_draws seed size h k (suc n) =
     ]
 
 pub made_accepted : (seed size : ℕ) → seed < 2 ^ 64 → size ≤ 8192 → Accepted (made_graph seed size)
-made_accepted seed size h k = let sound = sound_draws seed size h k size in accepted_lines (after_draws seed size size).lines sound.shape (after_draws seed size size).lasts sound.ordered
+made_accepted seed size h k = let sound = sound_draws seed size h k size in accepted_lines (after_draws seed size size).lines sound.shape (kept_draws seed size h k size).0.fits (after_draws seed size size).lasts sound.ordered

@@ -15,11 +15,11 @@ use Rattle.graph_terms.specs.declared.table.Kernel.TheVariants.{Iota, Expect}
 use Rattle.graph_terms.specs.Graph.{is_user, is_acquire, ends_user, is_release_of}
 use Rattle.graph_terms.specs.Access.{access, verb_accesses}
 use Rattle.graph_terms.specs.Edges.{on_edges, verb_edges, line_edges}
-use Rattle.graph_terms.specs.Fits.{access_unknown, access_outside, repeats, line_unknown, IsVerb}
+use Rattle.graph_terms.specs.Fits.{access_unknown, access_outside, repeats, IsVerb}
 use Rattle.graph_terms.specs.Spelling.{column_name, line_name, verb_words, on_words}
 use Rattle.graph_gen.specs.MadeGraph.{on_lines, made_line}
 use Rattle.graph_gen.proofs.LineNames.{decimal_short}
-use Rattle.graph_gen.proofs.Standing.{lined, both_false, against, Standing, NextFits, Sized, size_cons, size_none, within_sixty, name_size}
+use Rattle.graph_gen.proofs.Standing.{lined, both_false, against, names_unknown, Standing, NextFits, Sized, size_cons, size_none, within_sixty, name_size}
 
 -- what holds of each number below nine
 below_nine : (P : ℕ → Type 0) → P 0 → P 1 → P 2 → P 3 → P 4 → P 5 → P 6 → P 7 → P 8 → (c : ℕ) → c < 9 → P c
@@ -75,7 +75,7 @@ value_size : (v : ℕ) → v < 65536 → length (decimal v) ≤ 5
 value_size v h = decimal_short 5 v (omega arith) (omega arith) (omega arith)
 
 -- a line fits by what is shown of it
-fits_by : (ls : List Line) (v : Verb) (on : Option ℕ) → against ls v on ≡ false → repeats nat_eq (map (λ (a : Access). a.column) (verb_accesses v)) ≡ false → line_unknown (lined ls) (made_line 0 v on) ≡ false
+fits_by : (ls : List Line) (v : Verb) (on : Option ℕ) → against ls v on ≡ false → repeats nat_eq (map (λ (a : Access). a.column) (verb_accesses v)) ≡ false → names_unknown ls v on ≡ false
     → list_any (access_outside (lined ls)) (verb_accesses v) ≡ false → Sized (verb_words (lined ls) v ++ on_words (lined ls) (on_lines on)) 60 → length (line_edges ls (made_line 0 v on)) ≤ 2 → IsVerb v
     → ((k : ℕ) → length ls < k → (ends_user k v || is_release_of k v) ≡ false) → NextFits ls v on
 fits_by ls v on clear apart known within words few_edges values ends_none_later =

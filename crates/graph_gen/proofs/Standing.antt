@@ -1,23 +1,24 @@
 -- What stands while a graph is made, and a line more.
-use Rattle.std.proofs.Common.{◌≡◌, ℕ, zero, suc, ◌+◌, ◌*◌, ◌^◌, ◌<◌, ◌≤◌, Bool, false, ◌&&◌, ◌||◌, List, [], ◌∷◌, ◌++◌, length, map, refl, sym, ◌∙◌, ap, subst, append_assoc, append-nil, length-append, arith, lit≤}
-use Rattle.std.specs.Prelude.{Option, Some, None, true, nat_eq, nat_lt, is_some, slice_get}
+use Rattle.std.proofs.Common.{◌≡◌, ℕ, zero, suc, ◌+◌, ◌*◌, ◌^◌, ◌<◌, ◌≤◌, Bool, false, ◌&&◌, ◌||◌, List, [], ◌∷◌, ◌++◌, length, map, take, refl, sym, ◌∙◌, ap, subst, append_assoc, append-nil, length-append, arith, lit≤}
+use Rattle.std.specs.Prelude.{Option, Some, None, true, nat_eq, nat_lt, nat_le, is_some, slice_get, IsTrue}
 use Rattle.std.specs.Option.{option_map_or}
 use Rattle.std.specs.List.{list_any}
 use Rattle.std.specs.Str.{bytes_eq}
-use Rattle.std.proofs.lemmas.Bool.{false_from_ne_true, ltb-true, or_parts}
+use Rattle.std.proofs.lemmas.Bool.{true≢false, false_from_ne_true, ltb-true, or_parts}
 use Rattle.std.proofs.lemmas.List.Folds.{list_any-append}
 use Rattle.std.proofs.lemmas.List.Sums.{sum_by-cons}
 use Rattle.graph_terms.specs.declared.verb.Access.{Access}
 use Rattle.graph_terms.specs.declared.format.Format.TheVariants.{One}
-use Rattle.graph_terms.specs.declared.limits.TheConstants.{MAX_EVENTS}
+use Rattle.graph_terms.specs.declared.limits.TheConstants.{MAX_EVENTS, MAX_CALL_ACCESSES, MAX_COMPARED_ACCESSES}
 use Rattle.graph_terms.specs.declared.verb.Line.{Line}
 use Rattle.graph_terms.specs.declared.why.Why.TheVariants as why
 use Rattle.graph_terms.specs.declared.verb.Verb.{Verb}
-use Rattle.graph_terms.specs.Graph.{GraphValue, ends_user, is_release_of}
-use Rattle.graph_terms.specs.Access.{verb_accesses}
+use Rattle.graph_terms.specs.declared.verb.Verb.TheVariants.{Call}
+use Rattle.graph_terms.specs.Graph.{GraphValue, is_call, ends_user, is_release_of}
+use Rattle.graph_terms.specs.Access.{verb_accesses, call_accesses}
 use Rattle.graph_indexes.specs.Counts.{words_size}
 use Rattle.graph_terms.specs.Edges.{edges, line_edges}
-use Rattle.graph_terms.specs.Fits.{first_reason, repeats, is_used, with_line, is_beyond, verb_repeats, line_unknown, verb_unlike, takes_no_on, on_unlike, format_lacks, verb_misnumbered, access_outside, arrives_late, merged_events, names_many, line_fault, IsVerb, IsLine, LinesFit}
+use Rattle.graph_terms.specs.Fits.{first_reason, repeats, is_used, with_line, is_beyond, verb_repeats, named_lines, verb_unknown, access_unknown, data_unknown, line_unknown, verb_unlike, takes_no_on, on_unlike, format_lacks, verb_misnumbered, access_outside, data_outside, accesses_clash, verb_meets, arrives_late, merged_events, names_many, accesses_many, line_fault, is_called, IsVerb, IsLine, LinesFit}
 use Rattle.graph_terms.specs.Spelling.{spelled, verb_words, on_words, line_words, line_name, head}
 use Rattle.graph_model.proofs.CountLaws.{spelled_size}
 use Rattle.graph_terms.proofs.Public.{head_with_line, edges_push, long_names}
@@ -81,13 +82,17 @@ pub record Sized (ws : List (List ℕ)) (n : ℕ) : Type 0 where
 
 -- what may be said against a line besides its name, its columns and the lines that it names
 abbrev pub against : List Line → Verb → Option ℕ → Bool
-against ls v on = verb_repeats (lined ls) v || (verb_unlike (lined ls) v || ((takes_no_on v && is_some on) || (format_lacks One v || (verb_misnumbered One v || (arrives_late (lined ls) v || nat_lt MAX_EVENTS (length (merged_events v)))))))
+against ls v on = is_call v || (verb_repeats (lined ls) v || (verb_unlike (lined ls) v || ((takes_no_on v && is_some on) || (format_lacks One v || (verb_misnumbered One v || (arrives_late (lined ls) v || nat_lt MAX_EVENTS (length (merged_events v))))))))
+
+-- it names a line, a reservation, a barrier, a column or a space that is not there
+abbrev pub names_unknown : List Line → Verb → Option ℕ → Bool
+names_unknown ls v on = list_any (λ i. nat_le (length ls) i) (named_lines v ++ on_lines on) || (verb_unknown (lined ls) v || list_any (access_unknown (lined ls)) (verb_accesses v))
 
 -- what holds of a line that may come next
 pub record NextFits (ls : List Line) (v : Verb) (on : Option ℕ) : Type 0 where
   pub clear : against ls v on ≡ false
   pub apart : repeats nat_eq (map (λ (a : Access). a.column) (verb_accesses v)) ≡ false
-  pub known : line_unknown (lined ls) (made_line 0 v on) ≡ false
+  pub known : names_unknown ls v on ≡ false
   pub within : list_any (access_outside (lined ls)) (verb_accesses v) ≡ false
   pub words : Sized (verb_words (lined ls) v ++ on_words (lined ls) (on_lines on)) 60
   pub few_edges : length (line_edges ls (made_line 0 v on)) ≤ 2
@@ -119,9 +124,18 @@ name_size ls e st b few =
     let same : 0 + e ≡ e = omega arith in
     subst (λ w. length w ≤ 6) (sym (is ∙ ap made_name same)) (made_short e (omega arith))
 
-seven_false : (a b c d e f g : Bool) → a ≡ false → b ≡ false → c ≡ false → d ≡ false → e ≡ false → f ≡ false → g ≡ false
-    → first_reason ((a, why.Twice) ∷ (b, why.Unknown) ∷ (c, why.Kind) ∷ (d, why.Number) ∷ (e, why.Outside) ∷ (f, why.Arrivals) ∷ (g, why.Limit) ∷ []) ≡ None
-seven_false a b c d e f g h1 h2 h3 h4 h5 h6 h7 = rw (h1, h2, h3, h4, h5, h6, h7) refl
+eight_false : (a b c d e m f g : Bool) → a ≡ false → b ≡ false → c ≡ false → d ≡ false → e ≡ false → m ≡ false → f ≡ false → g ≡ false
+    → first_reason ((a, why.Twice) ∷ (b, why.Unknown) ∷ (c, why.Kind) ∷ (d, why.Number) ∷ (e, why.Outside) ∷ (m, why.Meets) ∷ (f, why.Arrivals) ∷ (g, why.Limit) ∷ []) ≡ None
+eight_false a b c d e m f g h1 h2 h3 h4 h5 h6 h7 h8 = rw (h1, h2, h3, h4, h5, h6, h7, h8) refl
+
+-- a line that is no call accesses no column of data
+no_call : (v : Verb) → is_call v ≡ false → call_accesses v ≡ []
+no_call (Call call) e = absurd (true≢false e)
+no_call v e = refl
+
+called : (v : Verb) → is_call v ≡ false → IsTrue (is_called v)
+called (Call call) e = absurd (true≢false e)
+called v e = refl
 
 module _ (ls : List Line) (n : ℕ) (v : Verb) (on : Option ℕ) (count : length ls ≡ n) (room : n < 8192) (st : Standing ls) (fits : NextFits ls v on) where
   abbrev next : Line
@@ -179,7 +193,9 @@ module _ (ls : List Line) (n : ℕ) (v : Verb) (on : Option ℕ) (count : length
 
   pub next_faultless : line_fault (lined ls) next ≡ None
   next_faultless =
-      let repeated = or_parts (verb_repeats (lined ls) v) _ fits.clear in
+      let call = or_parts (is_call v) _ fits.clear in
+      let none : call_accesses v ≡ [] = no_call v call.0 in
+      let repeated = or_parts (verb_repeats (lined ls) v) _ call.1 in
       let unlike = or_parts (verb_unlike (lined ls) v) _ repeated.1 in
       let bare = or_parts (takes_no_on v && is_some on) _ unlike.1 in
       let there = or_parts (format_lacks One v) _ bare.1 in
@@ -187,13 +203,24 @@ module _ (ls : List Line) (n : ℕ) (v : Verb) (on : Option ℕ) (count : length
       let late = or_parts (arrives_late (lined ls) v) (nat_lt MAX_EVENTS (length (merged_events v))) counted.1 in
       let apart : Bool = repeats nat_eq (map (λ (a : Access). a.column) (verb_accesses v)) in
       let alike : on_unlike One v (on_lines on) ≡ false = on_is_like v on bare.0 in
-      seven_false (is_used (lined ls) (made_name n) || (verb_repeats (lined ls) v || (apart || repeats nat_eq (on_lines on)))) (line_unknown (lined ls) next) (verb_unlike (lined ls) v || (on_unlike One v (on_lines on) || format_lacks One v)) (verb_misnumbered One v)
-      (list_any (access_outside (lined ls)) (verb_accesses v)) (arrives_late (lined ls) v) (names_many One v (on_lines on) || is_beyond (with_line (lined ls) next))
+      let named : Bool = list_any (λ i. nat_le (length ls) i) (named_lines v ++ on_lines on) in
+      let known = or_parts named _ fits.known in
+      let places = or_parts (verb_unknown (lined ls) v) (list_any (access_unknown (lined ls)) (verb_accesses v)) known.1 in
+      let data_known : list_any (data_unknown (lined ls)) (call_accesses v) ≡ false = ap (list_any (data_unknown (lined ls))) none in
+      let all_known : line_unknown (lined ls) next ≡ false =
+      both_false named _ known.0 (both_false (verb_unknown (lined ls) v) _ places.0 (both_false (list_any (access_unknown (lined ls)) (verb_accesses v)) _ places.1 data_known)) in
+      let few : accesses_many v ≡ false = ap (λ given. nat_lt MAX_CALL_ACCESSES (length given)) none in
+      eight_false (is_used (lined ls) (made_name n) || (verb_repeats (lined ls) v || (apart || repeats nat_eq (on_lines on)))) (line_unknown (lined ls) next) (verb_unlike (lined ls) v || (on_unlike One v (on_lines on) || format_lacks One v)) (verb_misnumbered One v)
+      (list_any (access_outside (lined ls)) (verb_accesses v) || list_any (data_outside (lined ls)) (call_accesses v)) (verb_meets (lined ls) v) (arrives_late (lined ls) v)
+      (names_many One v (on_lines on) || (accesses_many v || is_beyond (with_line (lined ls) next)))
       (both_false (is_used (lined ls) (made_name n)) _ unused_name (both_false (verb_repeats (lined ls) v) _ repeated.0 (both_false apart (repeats nat_eq (on_lines on)) fits.apart (on_once on))))
-      fits.known (both_false (verb_unlike (lined ls) v) _ unlike.0 (both_false (on_unlike One v (on_lines on)) (format_lacks One v) alike there.0)) counted.0 fits.within late.0 (both_false (names_many One v (on_lines on)) (is_beyond (with_line (lined ls) next)) (on_is_few v on late.1) beyond_not)
+      all_known (both_false (verb_unlike (lined ls) v) _ unlike.0 (both_false (on_unlike One v (on_lines on)) (format_lacks One v) alike there.0)) counted.0
+      (both_false (list_any (access_outside (lined ls)) (verb_accesses v)) (list_any (data_outside (lined ls)) (call_accesses v)) fits.within (ap (list_any (data_outside (lined ls))) none))
+      (ap (λ given. repeats (accesses_clash (lined ls)) (take MAX_COMPARED_ACCESSES given)) none) late.0
+      (both_false (names_many One v (on_lines on)) _ (on_is_few v on late.1) (both_false (accesses_many v) (is_beyond (with_line (lined ls) next)) few beyond_not))
 
   next_is_line : IsLine next
-  next_is_line = record { named = long_names (made_name n) (made_is_name n (omega arith)); values = fits.values }
+  next_is_line = record { named = long_names (made_name n) (made_is_name n (omega arith)); values = fits.values; called = called v (or_parts (is_call v) _ fits.clear).0 }
 
 -- lines that fit one after the other, and what holds of all then
 pub record RowFits (ls row : List Line) : Type 0 where

@@ -6,7 +6,7 @@ use Rattle.graph_terms.specs.declared.limits.TheConstants.{MAX_TEXT, MAX_SPACES}
 use Rattle.graph_terms.specs.Limits.{limits}
 use Rattle.graph_terms.specs.declared.format.Format.{Format}
 use Rattle.graph_terms.specs.declared.decl.Decl.{Decl}
-use Rattle.graph_terms.specs.Graph.{GraphValue, columns_of, named_spaces, columns, locks, barriers, space_at}
+use Rattle.graph_terms.specs.Graph.{GraphValue, columns_of, named_spaces, columns, data_columns, locks, barriers, space_at}
 use Rattle.graph_terms.specs.declared.decl.ColumnInfo.{ColumnInfo}
 use Rattle.graph_terms.specs.Edges.{edges}
 use Rattle.graph_terms.specs.Fits.{is_inst, cell_count}
@@ -26,7 +26,7 @@ counts_of g = record {
   text = length (head g);
   spaces = length (named_spaces g);
   insts = length (filter is_inst g.decls);
-  columns = length (columns g);
+  columns = length (columns g) + length (data_columns g);
   cells = cell_count g;
   locks = length (locks g);
   barriers = length (barriers g);

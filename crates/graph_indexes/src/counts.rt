@@ -1,7 +1,7 @@
 //! The quantities of a graph that have greatest values.
 
-ghost use Rattle.std.specs.Prelude.{◌≡◌, ◌≤◌, [], ◌∷◌, length, filter, filter_map};
-ghost use Rattle.graph_terms.specs.Graph.{space_of, columns_of, lock_of, barrier_of};
+ghost use Rattle.std.specs.Prelude.{◌≡◌, ◌≤◌, ◌+◌, [], ◌∷◌, length, filter, filter_map};
+ghost use Rattle.graph_terms.specs.Graph.{space_of, columns_of, data_columns_of, lock_of, barrier_of};
 ghost use Rattle.graph_terms.specs.Fits.{is_inst};
 ghost use Rattle.graph_indexes.specs.Counts.{is_above, has_many_spaces};
 
@@ -18,9 +18,9 @@ pub struct Counts {
     pub spaces: u64,
     /// Instances.
     pub insts: u64,
-    /// Columns of all instances.
+    /// Columns of all instances and all data.
     pub columns: u64,
-    /// Cells of all columns.
+    /// Cells of all columns of instances.
     pub cells: u64,
     /// Reservations.
     pub locks: u64,
@@ -79,13 +79,14 @@ pub fn insts_of(decl: &Decl) -> u64
     }
 }
 
-/// How many columns a declaration brings.
+/// How many columns a declaration brings, of an instance or of data.
 pub fn columns_of(decl: &Decl) -> u64
-    ensures number { result ≡ length (columns_of decl.now) }
+    ensures number { result ≡ length (columns_of decl.now) + length (data_columns_of decl.now) }
     ensures few { result ≤ u32.MAX }
 {
     match decl {
         Decl::Inst { fields, .. } => u64::from(fields.len()),
+        Decl::Data { fields, .. } => u64::from(fields.len()),
         _ => 0,
     }
 }

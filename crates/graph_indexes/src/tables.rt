@@ -13,14 +13,20 @@ use index_spaces::room::{push, push_within, reserve};
 use std::alloc::Global;
 use std::marker::Model;
 
+/// As many columns as a `u32` counts.
+const MOST_COLUMNS: usize = 4_294_967_295;
+
 /// The spaces, columns, reservations and barriers by their numbers.
 #[derive(Drop)]
 pub struct Tables {
     /// For each space the place of its declaration.
     space_places: Vec<u32>,
-    /// For each declaration how many columns are before it.
+    /// For each declaration how many columns of instances are before it.
     first_columns: Vec<u32>,
     column_infos: Vec<ColumnInfo>,
+    /// For each declaration how many columns of data are before it.
+    first_data_columns: Vec<u32>,
+    data_infos: Vec<ColumnInfo>,
     lock_names: Vec<Name>,
     barrier_infos: Vec<BarrierInfo>,
 }
@@ -35,6 +41,8 @@ impl Model for Tables {
       space_places = a.space_places.items;
       first_columns = a.first_columns.items;
       column_infos = a.column_infos.items;
+      first_data_columns = a.first_data_columns.items;
+      data_infos = a.data_infos.items;
       lock_names = a.lock_names.items;
       barrier_infos = a.barrier_infos.items;
     } };
@@ -49,6 +57,8 @@ impl Tables {
             space_places: Vec::new(alloc),
             first_columns: Vec::new(alloc),
             column_infos: Vec::new(alloc),
+            first_data_columns: Vec::new(alloc),
+            data_infos: Vec::new(alloc),
             lock_names: Vec::new(alloc),
             barrier_infos: Vec::new(alloc),
         }
@@ -61,11 +71,18 @@ impl Tables {
         self.space_places.len()
     }
 
-    /// How many columns there are.
+    /// How many columns of instances there are.
     pub fn columns(&self) -> usize
         ensures { result ≡ length self.now.column_infos }
     {
         self.column_infos.len()
+    }
+
+    /// How many columns of data there are.
+    pub fn data_columns(&self) -> usize
+        ensures { result ≡ length self.now.data_infos }
+    {
+        self.data_infos.len()
     }
 
     /// How many reservations there are.
@@ -90,7 +107,7 @@ impl Tables {
         self.space_places[s as usize]
     }
 
-    /// How many columns are before a declaration.
+    /// How many columns of instances are before a declaration.
     pub fn first_column(&self, d: u32) -> u32
         requires { d < length self.now.first_columns }
         ensures { slice_get self.now.first_columns d ≡ Some result }
@@ -98,12 +115,28 @@ impl Tables {
         self.first_columns[d as usize]
     }
 
-    /// A column by its number.
+    /// How many columns of data are before a declaration.
+    pub fn first_data_column(&self, d: u32) -> u32
+        requires { d < length self.now.first_data_columns }
+        ensures { slice_get self.now.first_data_columns d ≡ Some result }
+    {
+        self.first_data_columns[d as usize]
+    }
+
+    /// A column of an instance by its number.
     pub fn column(&self, c: u32) -> &ColumnInfo
         requires { c < length self.now.column_infos }
         ensures { slice_get self.now.column_infos c ≡ Some result.now }
     {
         &self.column_infos[c as usize]
+    }
+
+    /// A column of data by its number.
+    pub fn data_column(&self, c: u32) -> &ColumnInfo
+        requires { c < length self.now.data_infos }
+        ensures { slice_get self.now.data_infos c ≡ Some result.now }
+    {
+        &self.data_infos[c as usize]
     }
 
     /// The name of a reservation.
@@ -134,16 +167,36 @@ impl Tables {
         }
     }
 
+    /// The number of the column of this field of this data. `None` exactly where there is none.
+    /// All columns of data are looked through.
+    pub fn find_data_column(&self, name: &Name, field: &Name) -> Option<u32>
+        requires { length self.now.data_infos ≤ MAX_COLUMNS_OF_THREE }
+        ensures { result ≡ position (is_column_named name.now field.now) self.now.data_infos }
+    {
+        match column_place(&self.data_infos, name, field) {
+            Some(place) => Some(place as u32),
+            None => None,
+        }
+    }
+
     /// Adds a declaration that stands at `place`. `NoMemory` leaves the tables as they were.
     pub fn add(&mut self, decl: &Decl, place: u32) -> Result<(), NoMemory>
-        requires { length self.old.column_infos ≤ MAX_COLUMNS_OF_THREE }
         ensures ok { OnOk result (self.new ≡ tables_with self.old decl.now place) }
         ensures err { OnErr result (self.new ≡ self.old) }
     {
+        if self.column_infos.len() > MOST_COLUMNS || self.data_infos.len() > MOST_COLUMNS {
+            return Err(NoMemory);
+        }
         let first = self.column_infos.len() as u32;
+        let first_data = self.data_infos.len() as u32;
         push(&mut self.first_columns, first)?;
+        if let Err(error) = push(&mut self.first_data_columns, first_data) {
+            let _ = self.first_columns.pop();
+            return Err(error);
+        }
         if let Err(error) = self.add_items(decl, place) {
             let _ = self.first_columns.pop();
+            let _ = self.first_data_columns.pop();
             return Err(error);
         }
         Ok(())
@@ -161,6 +214,11 @@ impl Tables {
                 space,
                 fields,
             } => add_columns(&mut self.column_infos, name, *space, fields),
+            Decl::Data {
+                name,
+                space,
+                fields,
+            } => add_columns(&mut self.data_infos, name, *space, fields),
             Decl::Lock { name } => push(&mut self.lock_names, *name),
             Decl::Barrier {
                 name,

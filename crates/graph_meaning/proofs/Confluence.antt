@@ -19,11 +19,11 @@ use Rattle.graph_terms.specs.declared.verb.Verb.{Verb}
 use Rattle.graph_terms.specs.Graph.{GraphValue, verb_at, space_at}
 use Rattle.graph_terms.specs.Edges.{edges}
 use Rattle.graph_meaning.specs.Path.{HasPath}
-use Rattle.graph_terms.specs.Access.{accesses, verb_accesses, in_format, or_write, mode_in, is_reduction, modes_clash, AccessesConflict}
+use Rattle.graph_terms.specs.Access.{accesses, all_accesses, behind_columns, call_accesses, verb_accesses, in_format, or_write, mode_in, is_reduction, modes_clash, AccessesConflict}
 use Rattle.graph_meaning.specs.Rules.{Accepted}
 use Rattle.graph_meaning.specs.Effect.{Cells, zero_cells, Change, CellChange, cells_after, Effect, Effects, effect, verb_changes, verb_verdict, touches, Untouched}
 use Rattle.graph_meaning.specs.Evaluation.{Step, has_ended, changes_in, cells_with, cells_of, is_cancelled, made_by, step_by, step_with, lowest_ready, advance_by_with, steps_with, evaluation_with, evaluation, order_with, changes_with, eval_changes, cells_by_with, cells_of_lines_with, cells_of_lines}
-use Rattle.graph_meaning.specs.Laws.{FitsMode, IsWithinAccess, IsReadyAmongWith, IsReadyAmong, KeepsToAccesses, CellsByAllLines}
+use Rattle.graph_meaning.specs.Laws.{FitsMode, IsWithinAccess, IsReadyAmongWith, IsReadyAmong, AgreeWhereUsed, KeepsToAccesses, CellsByAllLines}
 use Rattle.basics.proofs.ListFacts.{contains_none, contains_here, contains_there, contains_map, some_passes, passes_some, map_contains, filter_contains}
 use Rattle.graph_meaning.proofs.PathLaws.{back_path}
 use Rattle.graph_meaning.proofs.Races.{commute_parts, before_ended, path_or_exempt}
@@ -127,14 +127,26 @@ within_in space fm list x w = record {
 pub line_within : (g : GraphValue) (i : ℕ) (cells : Cells) (x : CellChange) → Contains (effect g i cells).changes x → IsWithinAccess (space_at g) (accesses g i) x
 line_within g i cells x c = within_in (space_at g) g.format (option_map_or verb_accesses (verb_at g i) []) x (effect_within (space_at g) cells (verb_at g i) x c)
 
--- each change of the evaluation lies within an access of its line
-pub change_access_with : (does : Effects) (first : Cells) (g : GraphValue) → KeepsToAccesses g does → (k : ℕ) (x : CellChange) → Contains (changes_with does first g k) x → IsWithinAccess (space_at g) (accesses g k) x
-change_access_with does first g keeps k x c = elim (cases_Bool (has_ended (evaluation_with does first g) k)) [
-  | inl h ↦ (let t = ends_by_turn_with does first g k h in
-      keeps.within k (cells_with first t.before) x
-      (step_changes k (is_cancelled g (evaluation_with does first g) k) (does k (cells_with first t.before)) x (subst (λ cs. Contains cs x) t.changes_are c)))
+-- a change within accesses to columns with cells is within one of all of them
+in_all : (g : GraphValue) (i : ℕ) (a : Access) → Contains (accesses g i) a → Contains (all_accesses g i) a
+in_all g i a c = Contains-append_left (accesses g i) (map (behind_columns g) (option_map_or call_accesses (verb_at g i) [])) a c
+
+within_all : (g : GraphValue) (i : ℕ) (x : CellChange) → IsWithinAccess (space_at g) (accesses g i) x → IsWithinAccess (space_at g) (all_accesses g i) x
+within_all g i x w = record { access = w.access; listed = in_all g i w.access w.listed; column = w.column; point = w.point; mode = w.mode }
+
+-- each change of the evaluation is one of its line's effect on some cells
+change_source : (does : Effects) (first : Cells) (g : GraphValue) (k : ℕ) (x : CellChange) → Contains (changes_with does first g k) x → (cells : Cells) × Contains (does k cells).changes x
+change_source does first g k x c = elim (cases_Bool (has_ended (evaluation_with does first g) k)) [
+  | inl h ↦ (let t = ends_by_turn_with does first g k h in (
+    cells_with first t.before,
+    step_changes k (is_cancelled g (evaluation_with does first g) k) (does k (cells_with first t.before)) x (subst (λ cs. Contains cs x) t.changes_are c),
+  ))
   | inr h ↦ absurd (contains_none x (subst (λ cs. Contains cs x) (changes_in_left (evaluation_with does first g) k h) c))
 ]
+
+-- so it lies within an access of its line
+pub change_access_with : (does : Effects) (first : Cells) (g : GraphValue) → KeepsToAccesses g does → (k : ℕ) (x : CellChange) → Contains (changes_with does first g k) x → IsWithinAccess (space_at g) (all_accesses g k) x
+change_access_with does first g keeps k x c = let s = change_source does first g k x c in keeps.within k s.0 x s.1
 
 clash_of : (m n : Mode) (c : Change) → FitsMode n c → modes_clash m n ≡ true
 clash_of m Read c f = absurd f
@@ -145,7 +157,7 @@ clash_of Read Most c f = refl
 clash_of m n c f = refl
 
 -- two accesses that conflict: a path one way or the other, or both are reductions of one kind
-path_or_sums : (g : GraphValue) → Accepted g → (i k : ℕ) → (i ≡ k → ⊥) → (a b : Access) → Contains (accesses g i) a → Contains (accesses g k) b → AccessesConflict g a b →
+path_or_sums : (g : GraphValue) → Accepted g → (i k : ℕ) → (i ≡ k → ⊥) → (a b : Access) → Contains (all_accesses g i) a → Contains (all_accesses g k) b → AccessesConflict g a b →
     HasPath g i k ⊎ (HasPath g k i ⊎ ((is_reduction a.mode ≡ true) × (a.mode ≡ b.mode)))
 path_or_sums g accepted i k ne a b ha hb c = elim (path_or_exempt g accepted i k (record { different = ne; one = a; other = b; one_in = ha; other_in = hb; conflict = c })) [
   | inl p ↦ inl p
@@ -217,7 +229,7 @@ module _ (does : Effects) (first : Cells) (g : GraphValue) (accepted : Accepted 
     (put_ready : (k : ℕ) → put k ≡ true → (e : Edge) → Contains (edges g) e → e.to ≡ k → ended e.from ≡ true)
     (kept : (k : ℕ) → ended k ≡ true → (x : CellChange) → Contains (changes_with does first g k) x → touches c p x ≡ true → put k ≡ true)
   where
-    conflict_at : (a : Access) → a.column ≡ c → has_point (space_at g a.space) p ≡ true → (k : ℕ) (x : CellChange) → touches c p x ≡ true → (w : IsWithinAccess (space_at g) (accesses g k) x) → AccessesConflict g a w.access
+    conflict_at : (a : Access) → a.column ≡ c → has_point (space_at g a.space) p ≡ true → (k : ℕ) (x : CellChange) → touches c p x ≡ true → (w : IsWithinAccess (space_at g) (all_accesses g k) x) → AccessesConflict g a w.access
     conflict_at a ac ap' k x t w =
         let m = and_parts (c == x.column) (p == x.point) t in
         record {
@@ -227,7 +239,7 @@ module _ (does : Effects) (first : Cells) (g : GraphValue) (accepted : Accepted 
         }
 
     -- a line before that is not put back changes no cell that the line reads
-    unput_before : (a : Access) → Contains (accesses g i) a → (is_reduction a.mode ≡ false) → a.column ≡ c → has_point (space_at g a.space) p ≡ true →
+    unput_before : (a : Access) → Contains (all_accesses g i) a → (is_reduction a.mode ≡ false) → a.column ≡ c → has_point (space_at g a.space) p ≡ true →
         (k : ℕ) → Contains (lines_before does first g i before turn) k → put k ≡ false → Untouched c p (changes_with does first g k)
     unput_before a ha ne ac ap' k hk unput x hx = false_from_ne_true (touches c p x) (λ t.
         let w = change_access_with does first g keeps k x hx in
@@ -238,7 +250,7 @@ module _ (does : Effects) (first : Cells) (g : GraphValue) (accepted : Accepted 
         ])
 
     -- a line behind that is put back meets the line by reductions of one kind alone
-    reduces_behind : (a : Access) → Contains (accesses g i) a → a.column ≡ c → has_point (space_at g a.space) p ≡ true →
+    reduces_behind : (a : Access) → Contains (all_accesses g i) a → a.column ≡ c → has_point (space_at g a.space) p ≡ true →
         (k : ℕ) → Contains (lines_behind does first g i before turn) k → put k ≡ true → (x : CellChange) (hx : Contains (changes_with does first g k) x) → touches c p x ≡ true → (is_reduction a.mode ≡ true) × (a.mode ≡ (change_access_with does first g keeps k x hx).access.mode)
     reduces_behind a ha ac ap' k hk is_put x hx t =
         let w = change_access_with does first g keeps k x hx in
@@ -285,7 +297,7 @@ module _ (does : Effects) (first : Cells) (g : GraphValue) (accepted : Accepted 
         ∙ cells_after-append first (changes_of (filter put (lines_before does first g i before turn))) (changes_of (filter put (lines_behind does first g i before turn))))
 
     -- a cell that the line reads, or writes other than by a reduction, is list at its turn
-    pub cell_is_as_at_turn : (a : Access) → Contains (accesses g i) a → (is_reduction a.mode ≡ false) → a.column ≡ c → has_point (space_at g a.space) p ≡ true → cells_of_lines_with does first g put c p ≡ cells_with first before c p
+    pub cell_is_as_at_turn : (a : Access) → Contains (all_accesses g i) a → (is_reduction a.mode ≡ false) → a.column ≡ c → has_point (space_at g a.space) p ≡ true → cells_of_lines_with does first g put c p ≡ cells_with first before c p
     unfolding changes_of
     cell_is_as_at_turn a ha ne ac ap' =
         ap (λ (f : Cells). f c p) cells_put
@@ -317,7 +329,7 @@ module _ (does : Effects) (first : Cells) (g : GraphValue) (accepted : Accepted 
 
     -- where the line and one behind it both change this cell, they do so by reductions of one kind
     behind_meets : (y : CellChange) (hy : Contains (changes_of (filter put (lines_behind does first g i before turn))) y) → touches c p y ≡ true →
-        (a : Access) → Contains (accesses g i) a → a.column ≡ c → has_point (space_at g a.space) p ≡ true → (is_reduction a.mode ≡ true) × (a.mode ≡ behind_mode y hy)
+        (a : Access) → Contains (all_accesses g i) a → a.column ≡ c → has_point (space_at g a.space) p ≡ true → (is_reduction a.mode ≡ true) × (a.mode ≡ behind_mode y hy)
     unfolding changes_of behind_mode
     behind_meets y hy t a ha ac ap' =
         let r = flat_map_contains (changes_with does first g) (filter put (lines_behind does first g i before turn)) y hy in
@@ -325,7 +337,7 @@ module _ (does : Effects) (first : Cells) (g : GraphValue) (accepted : Accepted 
         reduces_behind a ha ac ap' r.0 m.0 m.1 y r.2 t
 
     own_access : (x : CellChange) → Contains (changes_with does first g i) x → touches c p x ≡ true →
-        (a : Access) × Contains (accesses g i) a × (a.column ≡ c) × (has_point (space_at g a.space) p ≡ true) × FitsMode a.mode x.change
+        (a : Access) × Contains (all_accesses g i) a × (a.column ≡ c) × (has_point (space_at g a.space) p ≡ true) × FitsMode a.mode x.change
     own_access x hx t =
         let w = change_access_with does first g keeps i x hx in
         let m = and_parts (c == x.column) (p == x.point) t in
@@ -399,13 +411,17 @@ effect_of verdict changes = record { «verdict» = verdict; «changes» = change
 same_parts : (v w : Verdict) (cs ds : List CellChange) → v ≡ w → cs ≡ ds → effect_of v cs ≡ effect_of w ds
 same_parts v w cs ds p q = cc
 
+-- what a graph's verbs do rests on columns with cells alone
+pub verbs_agree : (g : GraphValue) (i : ℕ) (cells others : Cells) → AgreeWhereUsed g i cells others → effect g i cells ≡ effect g i others
+verbs_agree g i cells others h =
+    let same = effect_same (space_at g) cells others (verb_at g i) (agree_in (space_at g) g.format (option_map_or verb_accesses (verb_at g i) []) cells others h) in
+    same_parts _ _ _ _ same.1 same.0
+
 -- the effects of the graph's verbs keep to its accesses
 pub verbs_keep : (g : GraphValue) → KeepsToAccesses g (effect g)
 verbs_keep g = record {
-  within = λ i cells x c. line_within g i cells x c;
-  agrees = λ i cells others h.
-      let same = effect_same (space_at g) cells others (verb_at g i) (agree_in (space_at g) g.format (option_map_or verb_accesses (verb_at g i) []) cells others h) in
-      same_parts _ _ _ _ same.1 same.0;
+  within = λ i cells x c. within_all g i x (line_within g i cells x c);
+  agrees = λ i cells others h. verbs_agree g i cells others (λ a ha. h a (in_all g i a ha));
 }
 
 -- lines that ended and change a cell are put back on its column
@@ -433,7 +449,7 @@ cells_by_all_lines does first g = ap (cells_after first) (flat_map_lines_with do
 
 -- the same with the effects of the graph's verbs, and cells of 0
 pub change_access : (g : GraphValue) (k : ℕ) (x : CellChange) → Contains (eval_changes g k) x → IsWithinAccess (space_at g) (accesses g k) x
-change_access g k x c = change_access_with (effect g) zero_cells g (verbs_keep g) k x c
+change_access g k x c = let s = change_source (effect g) zero_cells g k x c in line_within g k s.0 x s.1
 
 pub cell_is_put_back : (g : GraphValue) → Accepted g → (i : ℕ) (before : List Step) → IsTurn (effect g) zero_cells g (evaluation g) i before → (ended put : ℕ → Bool) (c p : ℕ) →
     ((e : Edge) → Contains (edges g) e → ended e.to ≡ true → ended e.from ≡ true) →

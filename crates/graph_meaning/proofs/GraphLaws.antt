@@ -1,6 +1,6 @@
 -- The laws of graphs whose items fit.
 use Rattle.std.proofs.Common.{◌≡◌, ℕ, ◌<◌, Bool, true, false, inl, inr, List, [], length, refl, sym, ◌∙◌, ap, subst, arith, get_or}
-use Rattle.std.specs.Prelude.{◌≢◌, AllPairs, Option, Some, None, nat_lt}
+use Rattle.std.specs.Prelude.{◌≢◌, IsTrue, AllPairs, Option, Some, None, nat_lt}
 use Rattle.std.specs.Option.{option_map_or}
 use Rattle.std.proofs.lemmas.Bool.{ltb-true, ltb-false}
 use Rattle.std.proofs.lemmas.List.{length-map, get_or-map}
@@ -15,10 +15,10 @@ use Rattle.graph_terms.specs.declared.verb.Access.{Access}
 use Rattle.graph_terms.specs.Access.{kernel_accesses}
 use Rattle.graph_terms.specs.Edges.{edges}
 use Rattle.graph_meaning.specs.Rules.{Accepted}
-use Rattle.graph_meaning.specs.Effect.{Cells, zero_cells, Change, CellChange, Effects, effect, changes_at, changes_of, seen, kernel_value, target, verb_changes}
-use Rattle.graph_meaning.specs.Evaluation.{Step, is_cancelled, step_by, evaluation_with, changes_with, cells_with, cells_of_lines_with}
+use Rattle.graph_meaning.specs.Effect.{Cells, zero_cells, Change, CellChange, cells_after, Effects, effect, changes_at, changes_of, seen, kernel_value, target, verb_changes}
+use Rattle.graph_meaning.specs.Evaluation.{Step, is_ended, end_with, is_cancelled, step_by, evaluation_with, changes_with, cells_with, cells_of_lines_with}
 use Rattle.graph_terms.specs.Fits.{IsGraph}
-use Rattle.graph_meaning.specs.Laws.{PathsCompose, EdgesBetweenLines, ChangesWithinAccesses, ReadyWhereUnreached, WaitsWhereReached, WaitsWhereReachedWith, CancelledWhereUnbroken, CancelledWhereUnbrokenWith, ChangesNameEachCellOnce, IsReadyAmongWith, cells_put_with, AgreeWhereUsed, KeepsToAccesses, VerbsKeepToAccesses, step_on_with, DoesAsEvaluatedWith, OrderIrrelevant, OrderIrrelevantWith}
+use Rattle.graph_meaning.specs.Laws.{PathsCompose, EdgesBetweenLines, ChangesWithinAccesses, ReadyWhereUnreached, WaitsWhereReached, WaitsWhereReachedWith, CancelledWhereUnbroken, CancelledWhereUnbrokenWith, ChangesNameEachCellOnce, IsReadyAmongWith, cells_put_with, cells_put, KeepsToAccesses, VerbsKeepToAccesses, put_with, step_on_with, DoesAsEvaluatedWith, OrderIrrelevant, OrderIrrelevantWith}
 use Rattle.graph_meaning.proofs.PathLaws.{path_append}
 use Rattle.graph_meaning.proofs.ReadyLine.{ready_or_never}
 use Rattle.graph_meaning.proofs.Waiting.{waits_if_reached_with, reached_if_waits_with}
@@ -58,7 +58,7 @@ pub verbs_keep_to_accesses : VerbsKeepToAccesses
 verbs_keep_to_accesses g = confluence.verbs_keep g
 
 pub changes_within_accesses : ChangesWithinAccesses
-changes_within_accesses g = (verbs_keep_to_accesses g).within
+changes_within_accesses g = confluence.line_within g
 
 -- changes of one column at points that ascend are of different cells
 abbrev Once : List CellChange → Type 0
@@ -106,10 +106,10 @@ changes_name_each_cell_once l g i cells f = once_at (space_at g) cells (λ s. as
 
 as_evaluated : (does : Effects) (first : Cells) (g : GraphValue) (i : ℕ) (ended : ℕ → Bool) (put : ℕ → ℕ → Bool) → Accepted g → KeepsToAccesses g does →
     (before : List Step) → IsTurn does first g (evaluation_with does first g) i before → IsReadyAmongWith does first g i ended put →
-    (cells : Cells) → AgreeWhereUsed g i cells (cells_put_with does first g put) → DoesAsEvaluatedWith does first g i cells
+    (cells : Cells) → does i cells ≡ does i (cells_put_with does first g put) → DoesAsEvaluatedWith does first g i cells
 as_evaluated does first g i ended put accepted keeps before turn r cells agree =
     let same : does i cells ≡ does i (cells_with first before) =
-    keeps.agrees i cells (cells_put_with does first g put) agree ∙ confluence.same_effect_with does first g accepted keeps i before turn ended put r in
+    agree ∙ confluence.same_effect_with does first g accepted keeps i before turn ended put r in
     let cancelled : is_cancelled g (evaluation_with does first g) i ≡ is_cancelled g before i = is_cancelled_agree g (evaluation_with does first g) before i turn.sources_same in
     let step : step_on_with does first g i cells ≡ step_by i (is_cancelled g before i) (does i (cells_with first before)) =
     ap (λ b. step_by i b (does i cells)) cancelled ∙ ap (step_by i (is_cancelled g before i)) same in
@@ -118,12 +118,26 @@ as_evaluated does first g i ended put accepted keeps before turn r cells agree =
       changes = ap (λ (s : Step). s.changes) step ∙ sym turn.changes_are;
     }
 
-pub order_is_irrelevant_with : OrderIrrelevantWith
-order_is_irrelevant_with does first g i ended put accepted keeps h r =
+-- the same where what the line does rests on what two states have in common
+abbrev DoesSo : Effects → Cells → GraphValue → ℕ → (ℕ → ℕ → Bool) → Type 0
+DoesSo does first g i put =
+    ((cells : Cells) → does i cells ≡ does i (cells_put_with does first g put) → DoesAsEvaluatedWith does first g i cells)
+    × ((c p : ℕ) → cells_after (cells_put_with does first g put) (changes_with does first g i) c p ≡ cells_put_with does first g (put_with i put) c p)
+
+does_so : (does : Effects) (first : Cells) (g : GraphValue) (i : ℕ) (ended : ℕ → Bool) (put : ℕ → ℕ → Bool) → Accepted g → KeepsToAccesses g does →
+    IsTrue (is_ended (end_with does first g i)) → IsReadyAmongWith does first g i ended put → DoesSo does first g i put
+does_so does first g i ended put accepted keeps h r =
     let t = turns_with does first g (length g.lines) i (has_ended_of does first g i h) in (
       as_evaluated does first g i ended put accepted keeps t.0 t.1 r,
       λ c p. cells_after_at (cells_put_with does first g put) (cells_of_lines_with does first g (put c)) (changes_with does first g i) c p refl ∙ confluence.same_cells does first g accepted keeps i t.0 t.1 ended put r c p,
     )
 
+pub order_is_irrelevant_with : OrderIrrelevantWith
+order_is_irrelevant_with does first g i ended put accepted keeps h r =
+    let d = does_so does first g i ended put accepted keeps h r in
+    (λ cells agree. d.0 cells (keeps.agrees i cells (cells_put_with does first g put) agree), d.1)
+
 pub order_is_irrelevant : OrderIrrelevant
-order_is_irrelevant g i ended put f accepted h r = order_is_irrelevant_with (effect g) zero_cells g i ended put accepted (verbs_keep_to_accesses g) h r
+order_is_irrelevant g i ended put f accepted h r =
+    let d = does_so (effect g) zero_cells g i ended put accepted (verbs_keep_to_accesses g) h r in
+    (λ cells agree. d.0 cells (confluence.verbs_agree g i cells (cells_put g put) agree), d.1)

@@ -1,9 +1,10 @@
 -- A graph in a later format with the declarations and lines of another: where that one is accepted, it is too, with the same need and the same outcome.
-use Rattle.std.proofs.Common.{◌≡◌, ℕ, zero, suc, Bool, true, false, not, ◌&&◌, inl, inr, List, [], ◌++◌, length, map, refl, sym, ◌∙◌, ap, subst}
+use Rattle.std.proofs.Common.{◌≡◌, ℕ, zero, suc, Bool, true, false, cond, not, ◌&&◌, inl, inr, List, [], ◌++◌, length, map, refl, sym, ◌∙◌, ap, subst}
 use Rattle.std.specs.Prelude.{Contains, Option, Some, None, find, flat_map}
 use Rattle.std.specs.Option.{option_map_or}
 use Rattle.std.specs.List.{list_all}
 use Rattle.std.proofs.lemmas.Bool.{true≢false}
+use Rattle.std.proofs.lemmas.List.Elements.{Contains-append_left, Contains-append_right, Contains-append_cases}
 use Rattle.basics.specs.Lists.{numbers_below}
 use Rattle.basics.proofs.ListFacts.{map_contains, contains_map}
 use Rattle.index_spaces.specs.Column.{ColumnValue}
@@ -22,11 +23,12 @@ use Rattle.graph_terms.specs.declared.outcome.Outcome.{Outcome}
 use Rattle.graph_terms.specs.Format.{has_since}
 use Rattle.graph_terms.specs.Graph.{GraphValue, written_in, upgraded_format, verb_at, never_comes, never_comes_as, columns}
 use Rattle.graph_terms.specs.Edges.{edges, sources, edge}
-use Rattle.graph_terms.specs.Access.{verb_accesses, in_format, or_write, mode_in, accesses, is_read, modes_clash, AccessesConflict, Conflict}
+use Rattle.graph_terms.specs.Access.{verb_accesses, call_accesses, behind_columns, in_format, or_write, mode_in, accesses, all_accesses, is_read, is_reduction, modes_clash, AccessesConflict, Conflict}
 use Rattle.graph_meaning.specs.Rules.{Section, modes_commute, Exempt, SectionAt, RaceAt, Accepted}
 use Rattle.graph_meaning.specs.Need.{rivals, acquires_after, need_edges, Precedes, IsHigh, IsNeed}
 use Rattle.graph_meaning.specs.Evaluation.{Step, end_in, answer_of, has_ended, cells_of, is_ready, lowest_ready, advance_by, advance, steps_after, evaluation, eval_end, column_of, phase_value_by, phase_value, outcome}
 use Rattle.graph_meaning.specs.Laws.{UpgradeKeepsMeaning, LaterFormatsKeepMeaning}
+use Rattle.graph_meaning.proofs.Races.{commute_parts}
 
 -- what conflicts in one format conflicts in each
 read_or_write : (f : Format) (m : Mode) → is_read m ≡ false → is_read (or_write f m) ≡ false
@@ -48,12 +50,22 @@ clash_is Read Least = refl
 clash_is Read Most = refl
 clash_is m n = refl
 
-clash_in : (f h : Format) (m n : Mode) → modes_clash (mode_in f m) (mode_in f n) ≡ modes_clash (mode_in h m) (mode_in h n)
-clash_in f h m n =
-    clash_is (mode_in f m) (mode_in f n)
-    ∙ (ap (λ b. not (b && is_read (mode_in f n))) (read_in f m ∙ sym (read_in h m))
-    ∙ (ap (λ b. not (is_read (mode_in h m) && b)) (read_in f n ∙ sym (read_in h n))
-    ∙ sym (clash_is (mode_in h m) (mode_in h n))))
+-- a mode as a format takes it, where it is of a column with cells, and as it is, where it is of data
+mode_by : Bool → Format → Mode → Mode
+mode_by true f m = m
+mode_by false f m = mode_in f m
+
+read_by : (b : Bool) (f h : Format) (m : Mode) → is_read (mode_by b f m) ≡ is_read (mode_by b h m)
+unfolding mode_by
+read_by true f h m = refl
+read_by false f h m = read_in f m ∙ sym (read_in h m)
+
+clash_in : (b d : Bool) (f h : Format) (m n : Mode) → modes_clash (mode_by b f m) (mode_by d f n) ≡ modes_clash (mode_by b h m) (mode_by d h n)
+clash_in b d f h m n =
+    clash_is (mode_by b f m) (mode_by d f n)
+    ∙ (ap (λ x. not (x && is_read (mode_by d f n))) (read_by b f h m)
+    ∙ (ap (λ x. not (is_read (mode_by b h m) && x)) (read_by d f h n)
+    ∙ sym (clash_is (mode_by b h m) (mode_by d h n))))
 
 -- a format that has reductions takes each mode as it is
 as_it_is : (f : Format) → has_since Two f ≡ true → (m : Mode) → mode_in f m ≡ m
@@ -64,21 +76,29 @@ as_it_is f since Sum = refl
 as_it_is Two since m = refl
 as_it_is Three since m = refl
 
+-- what reduces in a format does so in a later one
+reduces_one : (f : Format) (m : Mode) → is_reduction (mode_in One m) ≡ true → mode_in f m ≡ mode_in One m
+reduces_one f Sum h = refl
+reduces_one f m h = absurd (true≢false (sym h))
+
+reduces_in : (e f : Format) (m : Mode) → has_since e f ≡ true → is_reduction (mode_in e m) ≡ true → mode_in f m ≡ mode_in e m
+reduces_in One f m since h = reduces_one f m h
+reduces_in Two f m since h = as_it_is f since m ∙ sym (as_it_is Two refl m)
+reduces_in Three One m since h = absurd (true≢false (sym since))
+reduces_in Three Two m since h = absurd (true≢false (sym since))
+reduces_in Three Three m since h = refl
+
+reduces_by : (b : Bool) (e f : Format) (m : Mode) → has_since e f ≡ true → is_reduction (mode_by b e m) ≡ true → mode_by b f m ≡ mode_by b e m
+unfolding mode_by
+reduces_by true e f m since h = refl
+reduces_by false e f m since h = reduces_in e f m since h
+
 -- what commutes in a format commutes in a later one
-commute_one : (f : Format) (m n : Mode) → modes_commute (mode_in One m) (mode_in One n) ≡ true → modes_commute (mode_in f m) (mode_in f n) ≡ true
-commute_one f Sum Sum h = refl
-commute_one f m n h = absurd (true≢false (sym h))
-
-commute_more : (e f : Format) (m n : Mode) → has_since Two e ≡ true → has_since Two f ≡ true → modes_commute (mode_in e m) (mode_in e n) ≡ true → modes_commute (mode_in f m) (mode_in f n) ≡ true
-commute_more e f m n old new h =
-    ap (λ x. modes_commute x (mode_in f n)) (as_it_is f new m ∙ sym (as_it_is e old m)) ∙ (ap (λ x. modes_commute (mode_in e m) x) (as_it_is f new n ∙ sym (as_it_is e old n)) ∙ h)
-
-commute_in : (e f : Format) (m n : Mode) → has_since e f ≡ true → modes_commute (mode_in e m) (mode_in e n) ≡ true → modes_commute (mode_in f m) (mode_in f n) ≡ true
-commute_in One f m n since h = commute_one f m n h
-commute_in Two f m n since h = commute_more Two f m n refl since h
-commute_in Three One m n since h = absurd (true≢false (sym since))
-commute_in Three Two m n since h = absurd (true≢false (sym since))
-commute_in Three Three m n since h = h
+commute_in : (b d : Bool) (e f : Format) (m n : Mode) → has_since e f ≡ true → modes_commute (mode_by b e m) (mode_by d e n) ≡ true → modes_commute (mode_by b f m) (mode_by d f n) ≡ true
+commute_in b d e f m n since h =
+    let parts = commute_parts (mode_by b e m) (mode_by d e n) h in
+    ap (λ x. modes_commute x (mode_by d f n)) (reduces_by b e f m since parts.0)
+    ∙ (ap (λ x. modes_commute (mode_by b e m) x) (reduces_by d e f n since (ap is_reduction (sym parts.1) ∙ parts.0)) ∙ h)
 
 -- THE SAME GRAPH IN ANOTHER FORMAT
 module _ (f : Format) where
@@ -134,25 +154,45 @@ module _ (f : Format) where
       (ap (λ (f : ℕ → Option ℕ). map f lines) (λ i p. phase_alike g p i))
       (ap (λ ss. map (column_of g (cells_of ss)) (numbers_below (length (columns g)))) (evaluation_alike g))
 
-  conflict_in : (g : GraphValue) (x y : Access) → AccessesConflict (written_in f g) (in_format f x) (in_format f y) → AccessesConflict g (in_format g.format x) (in_format g.format y)
-  conflict_in g x y c = record { column = c.column; meet = c.meet; clash = clash_in g.format f x.mode y.mode ∙ c.clash }
+  -- an access of a line as a format takes it, where it is of a column with cells; one of data is the same in each format
+  access_by : Bool → Format → GraphValue → Access → Access
+  access_by b h g x = record { column = cond b (behind_columns g x).column x.column; space = x.space; mode = mode_by b h x.mode }
 
-  -- the accesses of a line before formats
-  plain : GraphValue → ℕ → List Access
-  plain g i = option_map_or verb_accesses (verb_at g i) []
+  conflict_in : (g : GraphValue) (b d : Bool) (x y : Access) → AccessesConflict (written_in f g) (access_by b f g x) (access_by d f g y) → AccessesConflict g (access_by b g.format g x) (access_by d g.format g y)
+  unfolding access_by
+  conflict_in g b d x y c = record { column = c.column; meet = c.meet; clash = clash_in b d g.format f x.mode y.mode ∙ c.clash }
 
-  behind : (g : GraphValue) (i : ℕ) (a : Access) → Contains (accesses (written_in f g) i) a → (x : Access) × Contains (plain g i) x × (in_format f x ≡ a)
-  unfolding plain
-  behind g i a c = map_contains (in_format f) (option_map_or verb_accesses (verb_at g i) []) a c
+  -- the accesses of a line before formats, and which of them are of data
+  plain : GraphValue → ℕ → Bool → List Access
+  plain g i true = option_map_or call_accesses (verb_at g i) []
+  plain g i false = option_map_or verb_accesses (verb_at g i) []
 
-  before : (g : GraphValue) (i : ℕ) (x : Access) → Contains (plain g i) x → Contains (accesses g i) (in_format g.format x)
-  unfolding plain
-  before g i x c = contains_map (in_format g.format) (option_map_or verb_accesses (verb_at g i) []) x c
+  -- what stands behind an access of the graph as it is written
+  abbrev Behind : GraphValue → ℕ → Access → Type 0
+  Behind g i a = (b : Bool) × (x : Access) × Contains (plain g i b) x × (access_by b f g x ≡ a)
+
+  behind : (g : GraphValue) (i : ℕ) (a : Access) → Contains (all_accesses (written_in f g) i) a → Behind g i a
+  unfolding plain access_by mode_by
+  behind g i a c = elim (Contains-append_cases (accesses (written_in f g) i) (map (behind_columns g) (option_map_or call_accesses (verb_at g i) [])) a c) [
+    | inl one ↦ (let m = map_contains (in_format f) (option_map_or verb_accesses (verb_at g i) []) a one in (false, m.0, m.1, m.2))
+    | inr other ↦ (let m = map_contains (behind_columns g) (option_map_or call_accesses (verb_at g i) []) a other in (true, m.0, m.1, m.2))
+  ]
+
+  before : (g : GraphValue) (i : ℕ) (b : Bool) (x : Access) → Contains (plain g i b) x → Contains (all_accesses g i) (access_by b g.format g x)
+  unfolding plain access_by mode_by
+  before g i true x c = Contains-append_right (accesses g i) (map (behind_columns g) (option_map_or call_accesses (verb_at g i) [])) _
+      (contains_map (behind_columns g) (option_map_or call_accesses (verb_at g i) []) x c)
+  before g i false x c = Contains-append_left (accesses g i) (map (behind_columns g) (option_map_or call_accesses (verb_at g i) [])) _
+      (contains_map (in_format g.format) (option_map_or verb_accesses (verb_at g i) []) x c)
 
   -- two accesses of the graph as it is written are those of the other one
-  at_both : (g : GraphValue) (a b x y : Access) → in_format f x ≡ a → in_format f y ≡ b → AccessesConflict (written_in f g) a b → AccessesConflict (written_in f g) (in_format f x) (in_format f y)
-  at_both g a b x y p q c =
-      subst (λ z. AccessesConflict (written_in f g) z (in_format f y)) (sym p) (subst (λ z. AccessesConflict (written_in f g) a z) (sym q) c)
+  at_both : (g : GraphValue) (a b x y : Access) → x ≡ a → y ≡ b → AccessesConflict (written_in f g) a b → AccessesConflict (written_in f g) x y
+  at_both g a b x y p q c = subst (λ z. AccessesConflict (written_in f g) z y) (sym p) (subst (λ z. AccessesConflict (written_in f g) a z) (sym q) c)
+
+  -- so two that conflict do so in the other one
+  met : (g : GraphValue) (i j : ℕ) (a b : Access) (one : Behind g i a) (other : Behind g j b) → AccessesConflict (written_in f g) a b →
+      AccessesConflict g (access_by one.0 g.format g one.1) (access_by other.0 g.format g other.1)
+  met g i j a b one other c = conflict_in g one.0 other.0 one.1 other.1 (at_both g a b (access_by one.0 f g one.1) (access_by other.0 f g other.1) one.3 other.3 c)
 
   conflict_back : (g : GraphValue) (i j : ℕ) → Conflict (written_in f g) i j → Conflict g i j
   conflict_back g i j c =
@@ -160,12 +200,19 @@ module _ (f : Format) where
       let other = behind g j c.other c.other_in in
       record {
         different = c.different;
-        one = in_format g.format one.0;
-        other = in_format g.format other.0;
-        one_in = before g i one.0 one.1;
-        other_in = before g j other.0 other.1;
-        conflict = conflict_in g one.0 other.0 (at_both g c.one c.other one.0 other.0 one.2 other.2 c.conflict);
+        one = access_by one.0 g.format g one.1;
+        other = access_by other.0 g.format g other.1;
+        one_in = before g i one.0 one.1 one.2;
+        other_in = before g j other.0 other.1 other.2;
+        conflict = met g i j c.one c.other one other c.conflict;
       }
+
+  commute_on : (g : GraphValue) (i j : ℕ) → has_since g.format f ≡ true → (a b : Access) (one : Behind g i a) (other : Behind g j b) →
+      modes_commute (access_by one.0 g.format g one.1).mode (access_by other.0 g.format g other.1).mode ≡ true → modes_commute a.mode b.mode ≡ true
+  unfolding access_by
+  commute_on g i j since a b one other h =
+      let both : modes_commute (mode_by one.0 f one.1.mode) (mode_by other.0 f other.1.mode) ≡ true = commute_in one.0 other.0 g.format f one.1.mode other.1.mode since h in
+      subst (λ (z : Access). modes_commute z.mode b.mode ≡ true) one.3 (subst (λ (z : Access). modes_commute (mode_by one.0 f one.1.mode) z.mode ≡ true) other.3 both)
 
   section_on : (g : GraphValue) (l q i : ℕ) → Section g l q i → Section (written_in f g) l q i
   section_on g l q i s = record { acquires = s.acquires; entered = s.entered; release = s.release; releases = s.releases; left = s.left }
@@ -178,10 +225,8 @@ module _ (f : Format) where
     commute = λ a b ha hb c.
         let one = behind g i a ha in
         let other = behind g j b hb in
-        let met = conflict_in g one.0 other.0 (at_both g a b one.0 other.0 one.2 other.2 c) in
-        let both : modes_commute (mode_in f one.0.mode) (mode_in f other.0.mode) ≡ true =
-        commute_in g.format f one.0.mode other.0.mode since (x.commute (in_format g.format one.0) (in_format g.format other.0) (before g i one.0 one.1) (before g j other.0 other.1) met) in
-        subst (λ (z : Access). modes_commute z.mode b.mode ≡ true) one.2 (subst (λ (z : Access). modes_commute (mode_in f one.0.mode) z.mode ≡ true) other.2 both);
+        commute_on g i j since a b one other (x.commute (access_by one.0 g.format g one.1) (access_by other.0 g.format g other.1)
+        (before g i one.0 one.1 one.2) (before g j other.0 other.1 other.2) (met g i j a b one other c));
     lock = x.lock;
     one = x.one;
     other = x.other;

@@ -1,26 +1,27 @@
 -- What a line that fits says of its accesses and its barrier.
-use Rattle.std.proofs.Common.{◌≡◌, ℕ, zero, suc, map, ◌∷◌, ◌||◌, ◌<◌, Bool, true, false, List, [], length, refl, sym, ◌∙◌, ap, subst, arith, ◌≤◌}
-use Rattle.std.specs.Prelude.{◌≢◌, nat_eq, Contains, Option, Some, None, IsTrue, not, option_map, slice_get}
+use Rattle.std.proofs.Common.{◌≡◌, ℕ, zero, suc, ◌+◌, inl, inr, map, ◌∷◌, ◌||◌, ◌<◌, Bool, true, false, List, [], length, refl, sym, ◌∙◌, ap, subst, arith, ◌≤◌}
+use Rattle.std.specs.Prelude.{◌≢◌, ◌++◌, nat_eq, nat_le, Contains, Option, Some, None, IsTrue, not, option_map, slice_get}
 use Rattle.std.specs.Option.{option_map_or}
 use Rattle.std.specs.List.{list_any, list_all, slice_index_or}
-use Rattle.std.proofs.lemmas.Bool.{true≢false, eq-eqb, or_parts, false_from_ne_true, leb-false}
+use Rattle.std.proofs.lemmas.Bool.{true≢false, eq-eqb, or_parts, false_from_ne_true, leb-false, ltb-false}
 use Rattle.std.proofs.lemmas.Option.{none-some, same_Some, slice_get-get_or, slice_get_within, get_or_from_slice_get, slice_get-map}
-use Rattle.std.proofs.lemmas.List.Elements.{Contains-get_or}
+use Rattle.std.proofs.lemmas.List.Elements.{Contains-get_or, Contains-append_left, Contains-append_cases}
 use Rattle.index_spaces.specs.Space.{has_point, points, IsSpace, IsWithin}
 use Rattle.index_spaces.proofs.Public.{points_are_listed}
 use Rattle.graph_terms.specs.declared.format.Format.{Format}
 use Rattle.graph_terms.specs.declared.verb.Access.{Access}
 use Rattle.graph_terms.specs.declared.verb.Line.{Line}
-use Rattle.graph_terms.specs.declared.verb.Verb.TheVariants.{Phase}
-use Rattle.graph_terms.specs.Graph.{GraphValue, verb_at, columns, column_space, named_spaces, space_at, barriers}
+use Rattle.graph_terms.specs.declared.limits.TheConstants.{MAX_CALL_ACCESSES}
+use Rattle.graph_terms.specs.declared.verb.Verb.TheVariants.{Phase, Call}
+use Rattle.graph_terms.specs.Graph.{GraphValue, verb_at, columns, data_columns, column_space, named_spaces, space_at, barriers}
 use Rattle.graph_terms.specs.declared.decl.ColumnInfo.{ColumnInfo}
-use Rattle.graph_terms.specs.Access.{verb_accesses, in_format, accesses}
-use Rattle.graph_terms.specs.Fits.{line_tests, line_fault, access_unknown, access_outside, is_used, verb_repeats, repeats, IsGraph}
+use Rattle.graph_terms.specs.Access.{verb_accesses, call_accesses, behind_columns, in_format, accesses, all_accesses}
+use Rattle.graph_terms.specs.Fits.{line_tests, line_fault, line_unknown, named_lines, verb_unknown, access_unknown, access_outside, data_unknown, data_outside, accesses_many, names_many, is_beyond, with_line, is_used, verb_repeats, repeats, IsGraph}
 use Rattle.graph_terms.specs.declared.why.Why.TheVariants as why
-use Rattle.graph_meaning.specs.LineLaws.{AccessFits, AccessesFit, ColumnsDiffer, PhasesFit, AccessesAreFew}
+use Rattle.graph_meaning.specs.LineLaws.{AccessFits, AccessesFit, AnyAccessFits, AllAccessesFit, AllAccessesAreFew, AccessesAreAmongAll, AccessesWithCells, AccessesOfOneKind, ColumnsDiffer, PhasesFit, AccessesAreFew}
 use Rattle.basics.proofs.ListFacts.{contains_none, map_contains, passes_some, passes_each}
 use Rattle.graph_terms.proofs.Public.{none_first, fits_known, spaces_are, fit_at, barrier_known, column_space_known, few}
-use Rattle.std.proofs.lemmas.List.{length-map}
+use Rattle.std.proofs.lemmas.List.{length-map, length-append}
 use Rattle.graph_terms.specs.declared.verb.Verb.{Verb}
 
 -- a declared space is a space
@@ -57,15 +58,21 @@ inside g a h p k =
     true_is true e = refl
     true_is false e = absurd (true≢false (sym e))
 
+-- a line that names what is known has known columns and spaces, of both kinds
+none_unknown : (g : GraphValue) (l : Line) → line_unknown g l ≡ false → (list_any (access_unknown g) (verb_accesses l.verb) ≡ false) × (list_any (data_unknown g) (call_accesses l.verb) ≡ false)
+none_unknown g l h =
+    let named : Bool = list_any (λ i. nat_le (length g.lines) i) (named_lines l.verb ++ l.on) in
+    let with_cells : Bool = list_any (access_unknown g) (verb_accesses l.verb) in
+    let of_data : Bool = list_any (data_unknown g) (call_accesses l.verb) in
+    or_parts with_cells of_data (or_parts (verb_unknown g l.verb) (with_cells || of_data) (or_parts named (verb_unknown g l.verb || (with_cells || of_data)) h).1).1
+
 access_fits : (g : GraphValue) → IsGraph g → (l : Line) (b : List Line) → line_fault (record { format = g.format; decls = g.decls; lines = b }) l ≡ None → (a : Access) → Contains (verb_accesses l.verb) a → AccessFits g a
 access_fits g f l b fits a c =
     let g' : GraphValue = record { format = g.format; decls = g.decls; lines = b } in
-    let parts = or_parts _ _ (fits_known g' l fits) in
-    let more = or_parts _ _ parts.1 in
-    let known : access_unknown g' a ≡ false = none_of (access_unknown g') (verb_accesses l.verb) more.1 a c in
+    let known : access_unknown g' a ≡ false = none_of (access_unknown g') (verb_accesses l.verb) (none_unknown g' l (fits_known g' l fits)).0 a c in
     let ends = or_parts _ _ known in
     let out : access_outside g' a ≡ false = none_of (access_outside g') (verb_accesses l.verb)
-    (none_first (line_tests g' l) fits (list_any (access_outside g') (verb_accesses l.verb), why.Outside) (4, omega arith, refl)) a c in
+    (or_parts _ _ (none_first (line_tests g' l) fits (list_any (access_outside g') (verb_accesses l.verb) || list_any (data_outside g') (call_accesses l.verb), why.Outside) (4, omega arith, refl))).0 a c in
     let column : a.column < length (columns g) = leb-false (length (columns g)) a.column ends.0 in
     let space : a.space < length (named_spaces g) = leb-false (length (named_spaces g)) a.space ends.1 in
     record { column = column; space = space; is_space = space_is g f a.space space; is_column_space = column_space_is g f a.column column; within = inside g a out }
@@ -137,3 +144,71 @@ accesses_are_few g i =
     let same : length (accesses g i) ≡ length (option_map_or verb_accesses (verb_at g i) []) = length-map (option_map_or verb_accesses (verb_at g i) []) (in_format g.format) in
     let h : length (option_map_or verb_accesses (verb_at g i) []) ≤ 3 = few_of (verb_at g i) in
     omega arith
+
+-- ACCESSES TO DATA
+pub accesses_of_one_kind : AccessesOfOneKind
+accesses_of_one_kind (Call call) = inl refl
+accesses_of_one_kind v = inr refl
+
+-- a line has few accesses of a call
+few_of_call : (g : GraphValue) (l : Line) → line_fault g l ≡ None → length (call_accesses l.verb) ≤ MAX_CALL_ACCESSES
+few_of_call g l fits =
+    let many : Bool = names_many g.format l.verb l.on || (accesses_many l.verb || is_beyond (with_line g l)) in
+    let none : many ≡ false = none_first (line_tests g l) fits (many, why.Limit) (7, omega arith, refl) in
+    let few : accesses_many l.verb ≡ false = (or_parts _ _ (or_parts _ _ none).1).0 in
+    ltb-false MAX_CALL_ACCESSES (length (call_accesses l.verb)) few
+
+few_by : (g : GraphValue) → IsGraph g → (i : ℕ) (o : Option Line) → slice_get g.lines i ≡ o →
+    length (option_map_or verb_accesses (option_map (λ (l : Line). l.verb) o) []) + length (option_map_or call_accesses (option_map (λ (l : Line). l.verb) o) []) ≤ MAX_CALL_ACCESSES
+few_by g f i None e = omega arith
+few_by g f i (Some l) e =
+    let b = fit_at g.format g.decls [] g.lines f.lines i l e in
+    let calls : length (call_accesses l.verb) ≤ MAX_CALL_ACCESSES = few_of_call (record { format = g.format; decls = g.decls; lines = b.0 }) l b.1 in
+    elim (accesses_of_one_kind l.verb) [
+      | inl none ↦ (let no : length (verb_accesses l.verb) ≡ 0 = ap length none in omega arith)
+      | inr none ↦ (let no : length (call_accesses l.verb) ≡ 0 = ap length none in let three : length (verb_accesses l.verb) ≤ 3 = few l.verb in omega arith)
+    ]
+
+pub all_accesses_are_few : AllAccessesAreFew
+all_accesses_are_few g i f =
+    let calls : List Access = option_map_or call_accesses (verb_at g i) [] in
+    let with_cells : length (accesses g i) ≡ length (option_map_or verb_accesses (verb_at g i) []) = length-map (option_map_or verb_accesses (verb_at g i) []) (in_format g.format) in
+    let of_data : length (map (behind_columns g) calls) ≡ length calls = length-map calls (behind_columns g) in
+    let both : length (all_accesses g i) ≡ length (accesses g i) + length (map (behind_columns g) calls) = length-append (accesses g i) (map (behind_columns g) calls) in
+    let h : length (option_map_or verb_accesses (verb_at g i) []) + length calls ≤ MAX_CALL_ACCESSES = few_by g f i (slice_get g.lines i) refl in
+    omega arith
+
+-- an access of a call is of a column of data and over a space
+call_access_fits : (g : GraphValue) → IsGraph g → (l : Line) (b : List Line) → line_fault (record { format = g.format; decls = g.decls; lines = b }) l ≡ None → (a : Access) → Contains (call_accesses l.verb) a → AnyAccessFits g (behind_columns g a)
+call_access_fits g f l b fits a c =
+    let g' : GraphValue = record { format = g.format; decls = g.decls; lines = b } in
+    let known : data_unknown g' a ≡ false = none_of (data_unknown g') (call_accesses l.verb) (none_unknown g' l (fits_known g' l fits)).1 a c in
+    let ends = or_parts _ _ known in
+    let column : a.column < length (data_columns g) = leb-false (length (data_columns g)) a.column ends.0 in
+    let space : a.space < length (named_spaces g) = leb-false (length (named_spaces g)) a.space ends.1 in
+    record { column = (let beyond : length (columns g) + a.column < length (columns g) + length (data_columns g) = omega arith in beyond); space = space; is_space = space_is g f a.space space }
+
+calls_by : (g : GraphValue) → IsGraph g → (i : ℕ) (o : Option Line) → slice_get g.lines i ≡ o → (a : Access) → Contains (option_map_or call_accesses (option_map (λ (l : Line). l.verb) o) []) a → AnyAccessFits g (behind_columns g a)
+calls_by g f i None e a c = absurd (contains_none a c)
+calls_by g f i (Some l) e a c = let b = fit_at g.format g.decls [] g.lines f.lines i l e in call_access_fits g f l b.0 b.1 a c
+
+any_fits : (g : GraphValue) (a : Access) → AccessFits g a → AnyAccessFits g a
+any_fits g a h = record { column = (let column : a.column < length (columns g) = h.column in let beyond : a.column < length (columns g) + length (data_columns g) = omega arith in beyond); space = h.space; is_space = h.is_space }
+
+pub all_accesses_fit : AllAccessesFit
+all_accesses_fit g i a f c = elim (Contains-append_cases (accesses g i) (map (behind_columns g) (option_map_or call_accesses (verb_at g i) [])) a c) [
+  | inl one ↦ any_fits g a (accesses_fit g i a f one)
+  | inr other ↦ (let m = map_contains (behind_columns g) (option_map_or call_accesses (verb_at g i) []) a other in subst (AnyAccessFits g) m.2 (calls_by g f i (slice_get g.lines i) refl m.0 m.1))
+]
+
+pub accesses_are_among_all : AccessesAreAmongAll
+accesses_are_among_all g i a c = Contains-append_left (accesses g i) (map (behind_columns g) (option_map_or call_accesses (verb_at g i) [])) a c
+
+pub accesses_with_cells : AccessesWithCells
+accesses_with_cells g i a c below = elim (Contains-append_cases (accesses g i) (map (behind_columns g) (option_map_or call_accesses (verb_at g i) [])) a c) [
+  | inl one ↦ one
+  | inr other ↦ (
+      let m = map_contains (behind_columns g) (option_map_or call_accesses (verb_at g i) []) a other in
+      let same : length (columns g) + m.0.column ≡ a.column = ap (λ (x : Access). x.column) m.2 in
+      absurd (omega arith))
+]

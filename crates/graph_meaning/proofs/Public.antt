@@ -6,7 +6,7 @@ use Rattle.std.specs.Prelude.{ℕ, List}
 use Rattle.graph_terms.specs.declared.verb.Edge.{Edge}
 use Rattle.graph_meaning.proofs.PathLaws as path_laws
 use Rattle.graph_meaning.proofs.PathTable as path_table
-use Rattle.graph_meaning.specs.LineLaws.{AccessesFit, AccessesAreFew, ColumnsDiffer, PhasesFit}
+use Rattle.graph_meaning.specs.LineLaws.{AccessesFit, AccessesAreFew, AllAccessesFit, AllAccessesAreFew, AccessesAreAmongAll, AccessesWithCells, AccessesOfOneKind, ColumnsDiffer, PhasesFit}
 use Rattle.graph_meaning.proofs.LineFacts as line_facts
 use Rattle.graph_meaning.proofs.Races as races
 use Rattle.graph_meaning.proofs.Turns as turns
@@ -52,6 +52,21 @@ accesses_fit = line_facts.accesses_fit
 
 pub accesses_are_few : AccessesAreFew
 accesses_are_few = line_facts.accesses_are_few
+
+pub all_accesses_fit : AllAccessesFit
+all_accesses_fit = line_facts.all_accesses_fit
+
+pub all_accesses_are_few : AllAccessesAreFew
+all_accesses_are_few = line_facts.all_accesses_are_few
+
+pub accesses_are_among_all : AccessesAreAmongAll
+accesses_are_among_all = line_facts.accesses_are_among_all
+
+pub accesses_with_cells : AccessesWithCells
+accesses_with_cells = line_facts.accesses_with_cells
+
+pub accesses_of_one_kind : AccessesOfOneKind
+accesses_of_one_kind = line_facts.accesses_of_one_kind
 
 pub columns_differ : ColumnsDiffer
 columns_differ = line_facts.columns_differ

@@ -1,11 +1,11 @@
 -- Whether a graph is accepted, by computing: where the test passes, the six rules hold.
 use Rattle.std.proofs.Common.{◌≡◌, ℕ, zero, suc, ◌+◌, ◌-◌, ◌<◌, ◌≤◌, Bool, true, false, not, ◌&&◌, ◌||◌, inl, inr, List, [], ◌∷◌, length, refl, sym, ◌∙◌, ap, subst, arith}
-use Rattle.std.specs.Prelude.{◌≢◌, Contains, Option, Some, None, ◌==◌, nat_lt, nat_le, option_and_then, option_map, slice_get}
+use Rattle.std.specs.Prelude.{◌≢◌, Contains, map, Option, Some, None, ◌==◌, nat_lt, nat_le, option_and_then, option_map, slice_get}
 use Rattle.std.specs.Option.{option_map_or}
 use Rattle.std.specs.List.{list_any, list_all}
 use Rattle.std.proofs.lemmas.Bool.{true≢false, eq-eqb, eqb-true, or_cases, and_parts, and_from, not-true, lt-ltb, ltb-true, leb-true}
 use Rattle.std.proofs.lemmas.Option.{none-some, same_Some, slice_get_within}
-use Rattle.std.proofs.lemmas.List.Elements.{Contains-append_left, Contains-append_right}
+use Rattle.std.proofs.lemmas.List.Elements.{Contains-append_left, Contains-append_right, Contains-append_cases}
 use Rattle.index_spaces.specs.Space.{has_point, interval_has, interval_points, points, Meet}
 use Rattle.basics.specs.Lists.{numbers_below}
 use Rattle.graph_terms.specs.declared.verb.Access.{Access}
@@ -15,7 +15,7 @@ use Rattle.graph_terms.specs.declared.verb.Verb.TheVariants.{Acquire}
 use Rattle.graph_terms.specs.Graph.{GraphValue, verb_at, line_passes, is_phase, is_acquire_of, is_release_of, never_comes, space_at}
 use Rattle.graph_terms.specs.Edges.{edges}
 use Rattle.graph_meaning.specs.Path.{HasPath}
-use Rattle.graph_terms.specs.Access.{accesses, verb_accesses, in_format, modes_clash, AccessesConflict, Conflict}
+use Rattle.graph_terms.specs.Access.{accesses, all_accesses, verb_accesses, call_accesses, behind_columns, in_format, modes_clash, AccessesConflict, Conflict}
 use Rattle.graph_terms.specs.Reservations.{Acquires, Releases, both_shared, taken_by, freed_by, lock_at, acquire_at, is_lower}
 use Rattle.graph_meaning.specs.Rules.{Section, modes_commute, Exempt, NoCycleAt, ReleasedAt, SectionAt, DescendsAt, stands_on_merges, ReleaseFaultAt, RaceAt, Everywhere, EverywhereTwice, FailsFirst, FailsFirstTwice, Accepted, IsRace}
 use Rattle.graph_terms.proofs.Public.{release_of_is, acquire_is, release_is, passes_below}
@@ -53,11 +53,11 @@ conflict_of g a b c = and_from (a.column == b.column) (meet (space_at g a.space)
     (and_from (meet (space_at g a.space) (space_at g b.space)) (modes_clash a.mode b.mode) (meet_of (space_at g a.space) (space_at g b.space) c.meet) c.clash)
 
 abbrev pub conflicts : GraphValue → ℕ → ℕ → Bool
-conflicts g i j = list_any (λ a. list_any (accesses_conflict g a) (accesses g j)) (accesses g i)
+conflicts g i j = list_any (λ a. list_any (accesses_conflict g a) (all_accesses g j)) (all_accesses g i)
 
 conflicts_of : (g : GraphValue) (i j : ℕ) → Conflict g i j → conflicts g i j ≡ true
-conflicts_of g i j c = passes_some (λ a. list_any (accesses_conflict g a) (accesses g j)) (accesses g i) c.one c.one_in
-    (passes_some (accesses_conflict g c.one) (accesses g j) c.other c.other_in (conflict_of g c.one c.other c.conflict))
+conflicts_of g i j c = passes_some (λ a. list_any (accesses_conflict g a) (all_accesses g j)) (all_accesses g i) c.one c.one_in
+    (passes_some (accesses_conflict g c.one) (all_accesses g j) c.other c.other_in (conflict_of g c.one c.other c.conflict))
 
 abbrev pub path_test : GraphValue → ℕ → ℕ → Bool
 path_test g i j = has_path (edges g) (length g.lines) i j
@@ -107,7 +107,7 @@ abbrev pub pair_exempts : GraphValue → ℕ → ℕ → ℕ → ℕ → Bool
 pair_exempts g i j q k = not (q == k) && (same_lock (lock_at g q) (lock_at g k) && (not (both_shared g q k) && (in_section g q i && in_section g k j)))
 
 abbrev pub sums_alone : GraphValue → ℕ → ℕ → Bool
-sums_alone g i j = list_all (λ (a : Access). list_all (λ (b : Access). implies (accesses_conflict g a b) (modes_commute a.mode b.mode)) (accesses g j)) (accesses g i)
+sums_alone g i j = list_all (λ (a : Access). list_all (λ (b : Access). implies (accesses_conflict g a b) (modes_commute a.mode b.mode)) (all_accesses g j)) (all_accesses g i)
 
 abbrev pub exempt_test : GraphValue → ℕ → ℕ → Bool
 exempt_test g i j = sums_alone g i j && list_any (λ q. list_any (pair_exempts g i j q) (numbers_below (length g.lines))) (numbers_below (length g.lines))
@@ -213,8 +213,8 @@ module _ (g : GraphValue) (range : edges_below (length g.lines) (edges g) ≡ tr
       let l = same_lock_from (lock_at g q.0) (lock_at g k.0) b.0 in
       record {
         commute = λ x y hx hy conflict. implied (accesses_conflict g x y) (modes_commute x.mode y.mode)
-            (passes_each (λ (y : Access). implies (accesses_conflict g x y) (modes_commute x.mode y.mode)) (accesses g j)
-            (passes_each (λ (x : Access). list_all (λ (y : Access). implies (accesses_conflict g x y) (modes_commute x.mode y.mode)) (accesses g j)) (accesses g i) m.0 x hx) y hy)
+            (passes_each (λ (y : Access). implies (accesses_conflict g x y) (modes_commute x.mode y.mode)) (all_accesses g j)
+            (passes_each (λ (x : Access). list_all (λ (y : Access). implies (accesses_conflict g x y) (modes_commute x.mode y.mode)) (all_accesses g j)) (all_accesses g i) m.0 x hx) y hy)
             (conflict_of g x y conflict);
         lock = l.0;
         one = q.0;
@@ -225,13 +225,16 @@ module _ (g : GraphValue) (range : edges_below (length g.lines) (edges g) ≡ tr
         other_section = section_from l.0 k.0 j (acquires_by l.0 (verb_at g k.0) l.2) c.1;
       }
 
-  access_line : (i : ℕ) (a : Access) → Contains (accesses g i) a → i < length g.lines
-  access_line i a c = let m = map_contains (in_format g.format) (option_map_or verb_accesses (verb_at g i) []) a c in below_of g.lines i m.0 m.1
+  access_line : (i : ℕ) (a : Access) → Contains (all_accesses g i) a → i < length g.lines
+  access_line i a c = elim (Contains-append_cases (accesses g i) (map (behind_columns g) (option_map_or call_accesses (verb_at g i) [])) a c) [
+    | inl one ↦ (let m = map_contains (in_format g.format) (option_map_or verb_accesses (verb_at g i) []) a one in below_of verb_accesses g.lines i m.0 m.1)
+    | inr other ↦ (let m = map_contains (behind_columns g) (option_map_or call_accesses (verb_at g i) []) a other in below_of call_accesses g.lines i m.0 m.1)
+  ]
     where
-      below_of : (ls : List Line) (i : ℕ) (a : Access) → Contains (option_map_or verb_accesses (option_map (λ (l : Line). l.verb) (slice_get ls i)) []) a → i < length ls
-      below_of [] i a c = absurd (contains_none a c)
-      below_of (l ∷ ls) zero a c = omega arith
-      below_of (l ∷ ls) (suc i) a c = let b : i < length ls = below_of ls i a c in omega arith
+      below_of : (f : Verb → List Access) (ls : List Line) (i : ℕ) (a : Access) → Contains (option_map_or f (option_map (λ (l : Line). l.verb) (slice_get ls i)) []) a → i < length ls
+      below_of f [] i a c = absurd (contains_none a c)
+      below_of f (l ∷ ls) zero a c = omega arith
+      below_of f (l ∷ ls) (suc i) a c = let b : i < length ls = below_of f ls i a c in omega arith
 
   pub race_holds : (i j : ℕ) → (i < length g.lines → j < length g.lines → race_test g i j ≡ true) → RaceAt g i j
   race_holds i j t below c =
@@ -318,5 +321,5 @@ race_is g i j range acyclic released sections descends release_faults here befor
 pub meets_itself : (g : GraphValue) (a : Access) → has_point (space_at g a.space) 0 ≡ true → modes_clash a.mode a.mode ≡ true → AccessesConflict g a a
 meets_itself g a here clash = record { column = refl; meet = (0, here, here); clash = clash }
 
-pub conflict_by : (g : GraphValue) (i j : ℕ) (a : Access) → i ≢ j → Contains (accesses g i) a → Contains (accesses g j) a → AccessesConflict g a a → Conflict g i j
+pub conflict_by : (g : GraphValue) (i j : ℕ) (a : Access) → i ≢ j → Contains (all_accesses g i) a → Contains (all_accesses g j) a → AccessesConflict g a a → Conflict g i j
 conflict_by g i j a different one_in other_in conflict = record { different = different; one = a; other = a; one_in = one_in; other_in = other_in; conflict = conflict }

@@ -13,7 +13,7 @@ use Rattle.graph_terms.specs.Format.{has_since}
 use Rattle.graph_terms.specs.Graph.{GraphValue, written_in, upgraded, never_comes, space_at, line_passes, is_phase}
 use Rattle.graph_terms.specs.Edges.{edges}
 use Rattle.graph_meaning.specs.Path.{HasPath, Reached, Path}
-use Rattle.graph_terms.specs.Access.{accesses, is_reduction, AccessesConflict, Conflict}
+use Rattle.graph_terms.specs.Access.{accesses, all_accesses, is_reduction, AccessesConflict, Conflict}
 use Rattle.graph_meaning.specs.Rules.{NoCycleAt, Everywhere, Accepted, modes_commute, Exempt}
 use Rattle.graph_meaning.specs.Effect as change
 use Rattle.graph_meaning.specs.Effect.{Cells, zero_cells, Change, Add, CellChange, cells_after, Effects, effect, Untouched}
@@ -118,15 +118,19 @@ cells_put_with does first g put column point = cells_of_lines_with does first g 
 abbrev pub cells_put : GraphValue → (ℕ → ℕ → Bool) → Cells
 cells_put g put = cells_put_with (effect g) zero_cells g put
 
--- two states of the cells are the same where line i reads or writes, other than by reductions
+-- two states of the cells are the same where line i reads or writes cells that the library keeps, other than by reductions
 abbrev pub AgreeWhereUsed : GraphValue → ℕ → Cells → Cells → Type 0
 AgreeWhereUsed g i cells others = (a : Access) → Contains (accesses g i) a → is_reduction a.mode ≡ false → (p : ℕ) → IsTrue (has_point (space_at g a.space) p) → cells a.column p ≡ others a.column p
+
+-- the same of cells of data too
+abbrev pub AgreeWhereAccessed : GraphValue → ℕ → Cells → Cells → Type 0
+AgreeWhereAccessed g i cells others = (a : Access) → Contains (all_accesses g i) a → is_reduction a.mode ≡ false → (p : ℕ) → IsTrue (has_point (space_at g a.space) p) → cells a.column p ≡ others a.column p
 
 -- effects that keep to the accesses of a graph's lines: each change of a line lies within one of its accesses and is of its mode,
 -- and what a line does rests on no cells but those that it reads, or writes other than by reductions
 pub record KeepsToAccesses (g : GraphValue) (does : Effects) : Type 0 where
-  pub within : (i : ℕ) (cells : Cells) (x : CellChange) → Contains (does i cells).changes x → IsWithinAccess (space_at g) (accesses g i) x
-  pub agrees : (i : ℕ) (cells others : Cells) → AgreeWhereUsed g i cells others → does i cells ≡ does i others
+  pub within : (i : ℕ) (cells : Cells) (x : CellChange) → Contains (does i cells).changes x → IsWithinAccess (space_at g) (all_accesses g i) x
+  pub agrees : (i : ℕ) (cells others : Cells) → AgreeWhereAccessed g i cells others → does i cells ≡ does i others
 
 -- the effects of a graph's verbs keep to its accesses
 abbrev pub VerbsKeepToAccesses : Type 0
@@ -164,7 +168,7 @@ abbrev pub OrderIrrelevantWith : Type 0
 OrderIrrelevantWith = (does : Effects) (first : Cells) (g : GraphValue) (i : ℕ) (ended : ℕ → Bool) (put : ℕ → ℕ → Bool) →
     Accepted g → KeepsToAccesses g does →
     IsTrue (is_ended (end_with does first g i)) → IsReadyAmongWith does first g i ended put →
-    ((cells : Cells) → AgreeWhereUsed g i cells (cells_put_with does first g put) → DoesAsEvaluatedWith does first g i cells)
+    ((cells : Cells) → AgreeWhereAccessed g i cells (cells_put_with does first g put) → DoesAsEvaluatedWith does first g i cells)
     × ((c p : ℕ) → cells_after (cells_put_with does first g put) (changes_with does first g i) c p
     ≡ cells_put_with does first g (put_with i put) c p)
 

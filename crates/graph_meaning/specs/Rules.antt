@@ -7,7 +7,7 @@ use Rattle.graph_terms.specs.declared.verb.Mode.{Mode}
 use Rattle.graph_terms.specs.declared.verb.Mode.TheVariants.{Sum, Least, Most}
 use Rattle.graph_terms.specs.Graph.{GraphValue, line_passes, is_phase, is_release_of, is_merge_ignore, never_comes}
 use Rattle.graph_meaning.specs.Path.{HasPath}
-use Rattle.graph_terms.specs.Access.{accesses, AccessesConflict, Conflict}
+use Rattle.graph_terms.specs.Access.{all_accesses, AccessesConflict, Conflict}
 use Rattle.graph_terms.specs.Reservations.{Acquires, Releases, both_shared}
 
 -- line i lies in the section of the acquire q of reservation l: on a path from it to its release
@@ -27,7 +27,7 @@ modes_commute _ _ = false
 
 -- two lines that conflict by reductions of one kind alone, each in a section of an acquire of its own of one reservation, which are not both shared
 pub record Exempt (g : GraphValue) (i j : ℕ) : Type 0 where
-  pub commute : (a b : Access) → Contains (accesses g i) a → Contains (accesses g j) b → AccessesConflict g a b → IsTrue (modes_commute a.mode b.mode)
+  pub commute : (a b : Access) → Contains (all_accesses g i) a → Contains (all_accesses g j) b → AccessesConflict g a b → IsTrue (modes_commute a.mode b.mode)
   pub lock : ℕ
   pub one : ℕ
   pub other : ℕ

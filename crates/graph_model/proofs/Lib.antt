@@ -5,3 +5,4 @@ pub mod RowLaws
 pub mod RowReads
 pub mod Upgrade
 pub mod CountLaws
+pub mod CallLaws

@@ -1,5 +1,5 @@
 -- The names of a graph with one more item.
-use Rattle.std.proofs.Common.{◌≡◌, ℕ, ◌+◌, ◌<◌, Bool, true, false, cond, ◌||◌, List, [], ◌∷◌, ◌++◌, length, map, refl, sym, ◌∙◌, ap, subst, append-nil, length-append, arith, get_or}
+use Rattle.std.proofs.Common.{◌≡◌, ℕ, ◌+◌, ◌<◌, Bool, true, false, cond, ◌||◌, ◌&&◌, List, [], ◌∷◌, ◌++◌, length, map, refl, sym, ◌∙◌, ap, subst, append-nil, length-append, arith, get_or}
 use Rattle.std.specs.Prelude.{filter_map, Option, Some, None, position, nat_lt, nat_eq, is_some, MatchOption}
 use Rattle.std.specs.List.{list_any, cons_option, position_or_len}
 use Rattle.std.specs.Str.{bytes_eq}
@@ -12,7 +12,7 @@ use Rattle.std.proofs.lemmas.List.Sums.{position_or_len_is}
 use Rattle.std.proofs.lemmas.Option.{none-some, same_Some}
 use Rattle.std.proofs.lemmas.Slice.Eq.{bytes_eq-Decides}
 use Rattle.graph_terms.specs.declared.decl.Decl.{Decl}
-use Rattle.graph_terms.specs.declared.decl.Decl.TheVariants.{Space, Inst, Lock, Barrier}
+use Rattle.graph_terms.specs.declared.decl.Decl.TheVariants.{Space, Inst, Data, Lock, Barrier}
 use Rattle.graph_terms.specs.declared.found.Found.{Found}
 use Rattle.graph_terms.specs.declared.found.Found.TheVariants as found
 use Rattle.index_spaces.specs.declared.Op.TheVariants as op
@@ -20,12 +20,12 @@ use Rattle.graph_terms.specs.declared.verb.Line.{Line}
 use Rattle.graph_terms.specs.declared.verb.Verb.TheVariants.{User}
 use Rattle.graph_terms.specs.Graph.{GraphValue, decl_name, space_of, lock_of, barrier_of, named_spaces, locks, barriers}
 use Rattle.graph_terms.specs.declared.decl.BarrierInfo.{BarrierInfo}
-use Rattle.graph_terms.specs.Fits.{is_inst, is_used, repeats, decl_repeats, verb_repeats, decl_tests, decl_fault, line_tests, line_fault, with_decl, with_line}
+use Rattle.graph_terms.specs.Fits.{is_inst, is_data, is_used, repeats, decl_repeats, verb_repeats, decl_tests, decl_fault, line_tests, line_fault, with_decl, with_line}
 use Rattle.graph_terms.specs.declared.verb.Access.{Access}
 use Rattle.graph_terms.specs.declared.why.Why.TheVariants as why
 use Rattle.graph_terms.specs.Access.{verb_accesses}
 use Rattle.graph_terms.proofs.Public.{none_first}
-use Rattle.graph_terms.specs.Names.{is_inst_named, StandsFor, found_decl}
+use Rattle.graph_terms.specs.Names.{is_inst_named, is_data_named, StandsFor, found_decl}
 use Rattle.graph_indexes.specs.Names.{AreNamesOf, NamesValue, named}
 
 -- the first place that passes
@@ -69,13 +69,19 @@ unused_in f key k q (d ∷ ds) h =
     let p = or_parts (bytes_eq q (decl_name d)) (list_any (bytes_eq q) (map decl_name ds)) h in
     unused_by key q (decl_name d) (f d) (filter_map f ds) (k d) p.0 (unused_in f key k q ds p.1)
 
-unused_inst : (q : List ℕ) (ds : List Decl) → list_any (bytes_eq q) (map decl_name ds) ≡ false → list_any (is_inst_named q) ds ≡ false
-unused_inst q [] h = refl
-unused_inst q (d ∷ ds) h =
+unused_decl_by : (kind : Decl → Bool) (q : List ℕ) (ds : List Decl) → list_any (bytes_eq q) (map decl_name ds) ≡ false → list_any (λ d. kind d && bytes_eq (decl_name d) q) ds ≡ false
+unused_decl_by kind q [] h = refl
+unused_decl_by kind q (d ∷ ds) h =
     let p = or_parts (bytes_eq q (decl_name d)) (list_any (bytes_eq q) (map decl_name ds)) h in
-    or_from (is_inst_named q d) (list_any (is_inst_named q) ds)
-    (false_from_ne_true (is_inst_named q d) (λ e. true≢false (sym (bytes_of_same q (decl_name d) (sym (same_bytes (decl_name d) q (and_parts (is_inst d) (bytes_eq (decl_name d) q) e).1))) ∙ p.0)))
-    (unused_inst q ds p.1)
+    or_from (kind d && bytes_eq (decl_name d) q) (list_any (λ x. kind x && bytes_eq (decl_name x) q) ds)
+    (false_from_ne_true (kind d && bytes_eq (decl_name d) q) (λ e. true≢false (sym (bytes_of_same q (decl_name d) (sym (same_bytes (decl_name d) q (and_parts (kind d) (bytes_eq (decl_name d) q) e).1))) ∙ p.0)))
+    (unused_decl_by kind q ds p.1)
+
+unused_inst : (q : List ℕ) (ds : List Decl) → list_any (bytes_eq q) (map decl_name ds) ≡ false → list_any (is_inst_named q) ds ≡ false
+unused_inst q ds h = unused_decl_by is_inst q ds h
+
+unused_data : (q : List ℕ) (ds : List Decl) → list_any (bytes_eq q) (map decl_name ds) ≡ false → list_any (is_data_named q) ds ≡ false
+unused_data q ds h = unused_decl_by is_data q ds h
 
 unused_lines : (q : List ℕ) (ls : List Line) → list_any (bytes_eq q) (map (λ (l : Line). l.name) ls) ≡ false → list_any (λ (x : Line). bytes_eq x.name q) ls ≡ false
 unused_lines q [] h = refl
@@ -88,18 +94,21 @@ unused_lines q (l ∷ ls) h =
 space_key : (d : Decl) (y : List ℕ × List (ℕ × ℕ)) → space_of d ≡ Some y → y.0 ≡ decl_name d
 space_key (Space name space) y e = cc
 space_key (Inst name space fields) y e = absurd (none-some y e)
+space_key (Data name space fields) y e = absurd (none-some y e)
 space_key (Lock name) y e = absurd (none-some y e)
 space_key (Barrier name count op first) y e = absurd (none-some y e)
 
 lock_key : (d : Decl) (y : List ℕ) → lock_of d ≡ Some y → y ≡ decl_name d
 lock_key (Space name space) y e = absurd (none-some y e)
 lock_key (Inst name space fields) y e = absurd (none-some y e)
+lock_key (Data name space fields) y e = absurd (none-some y e)
 lock_key (Lock name) y e = cc
 lock_key (Barrier name count op first) y e = absurd (none-some y e)
 
 barrier_key : (d : Decl) (y : BarrierInfo) → barrier_of d ≡ Some y → y.name ≡ decl_name d
 barrier_key (Space name space) y e = absurd (none-some y e)
 barrier_key (Inst name space fields) y e = absurd (none-some y e)
+barrier_key (Data name space fields) y e = absurd (none-some y e)
 barrier_key (Lock name) y e = absurd (none-some y e)
 barrier_key (Barrier name count op first) y e = ap (λ (x : BarrierInfo). x.name) (sym (same_Some (record { name = name; count = count; op = op; first = first }) y e))
 
@@ -128,6 +137,7 @@ stands_new g (Space name space) h =
     ap (position (λ (x : List ℕ × List (ℕ × ℕ)). bytes_eq x.0 name)) (pushed space_of g.decls (Space name space) (name, space) refl)
     ∙ position_new (λ (x : List ℕ × List (ℕ × ℕ)). bytes_eq x.0 name) (named_spaces g) (name, space) none (bytes_of_same name name refl)
 stands_new g (Inst name space fields) h = position_new (is_inst_named name) g.decls (Inst name space fields) (unused_inst name g.decls (decls_unused g name h)) (bytes_of_same name name refl)
+stands_new g (Data name space fields) h = position_new (is_data_named name) g.decls (Data name space fields) (unused_data name g.decls (decls_unused g name h)) (bytes_of_same name name refl)
 stands_new g (Lock name) h =
     let none = flipped_lock name (locks g) (unused_in lock_of (λ (x : List ℕ). x) lock_key name g.decls (decls_unused g name h)) in
     ap (position (bytes_eq name)) (pushed lock_of g.decls (Lock name) name refl) ∙ position_new (bytes_eq name) (locks g) name none (bytes_of_same name name refl)
@@ -147,6 +157,7 @@ filtered_kept f p ds d k h = filtered_by f p ds d k (f d) refl h
 stands_kept : (g : GraphValue) (d : Decl) (q : List ℕ) (x : Found) → StandsFor g q x → StandsFor (with_decl g d) q x
 stands_kept g d q (found.Space s) h = filtered_kept space_of (λ (x : List ℕ × List (ℕ × ℕ)). bytes_eq x.0 q) g.decls d s h
 stands_kept g d q (found.Inst i) h = position_kept (is_inst_named q) g.decls d i h
+stands_kept g d q (found.Data i) h = position_kept (is_data_named q) g.decls d i h
 stands_kept g d q (found.Lock l) h = filtered_kept lock_of (bytes_eq q) g.decls d l h
 stands_kept g d q (found.Barrier b) h = filtered_kept barrier_of (λ (x : BarrierInfo). bytes_eq x.name q) g.decls d b h
 stands_kept g d q (found.Line i) h = h
@@ -154,6 +165,7 @@ stands_kept g d q (found.Line i) h = h
 stands_kept_line : (g : GraphValue) (l : Line) (q : List ℕ) (x : Found) → StandsFor g q x → StandsFor (with_line g l) q x
 stands_kept_line g l q (found.Space s) h = h
 stands_kept_line g l q (found.Inst i) h = h
+stands_kept_line g l q (found.Data i) h = h
 stands_kept_line g l q (found.Lock k) h = h
 stands_kept_line g l q (found.Barrier b) h = h
 stands_kept_line g l q (found.Line i) h = position_kept (λ (x : Line). bytes_eq x.name q) g.lines l i h
@@ -230,6 +242,7 @@ at_some p xs k d e none = let s = position-Some p xs k d e in true≢false (sym 
 pub stands_not_unused : (g : GraphValue) (q : List ℕ) (x : Found) → StandsFor g q x → is_used g q ≡ false → ⊥
 stands_not_unused g q (found.Space s) h n = at_some (λ (x : List ℕ × List (ℕ × ℕ)). bytes_eq x.0 q) (named_spaces g) s ([], []) h (unused_in space_of (λ (x : List ℕ × List (ℕ × ℕ)). x.0) space_key q g.decls (decls_unused g q n))
 stands_not_unused g q (found.Inst d) h n = at_some (is_inst_named q) g.decls d (Lock []) h (unused_inst q g.decls (decls_unused g q n))
+stands_not_unused g q (found.Data d) h n = at_some (is_data_named q) g.decls d (Lock []) h (unused_data q g.decls (decls_unused g q n))
 stands_not_unused g q (found.Lock l) h n = at_some (bytes_eq q) (locks g) l [] h (flipped_lock q (locks g) (unused_in lock_of (λ (x : List ℕ). x) lock_key q g.decls (decls_unused g q n)))
 stands_not_unused g q (found.Barrier b) h n = at_some (λ (x : BarrierInfo). bytes_eq x.name q) (barriers g) b (record { name = []; count = 0; op = op.Sum; first = 0 }) h (unused_in barrier_of (λ (x : BarrierInfo). x.name) barrier_key q g.decls (decls_unused g q n))
 stands_not_unused g q (found.Line i) h n = at_some (λ (x : Line). bytes_eq x.name q) g.lines i (record { name = []; verb = User; on = [] }) h (unused_lines q g.lines (lines_unused g q n))

@@ -9,13 +9,12 @@ use Rattle.std.proofs.lemmas.Grind.{flat_map-append}
 use Rattle.std.proofs.lemmas.List.{append-nil, length-append}
 use Rattle.std.proofs.lemmas.List.Elements.{filter_map-append}
 use Rattle.graph_terms.specs.declared.decl.Decl.{Decl}
-use Rattle.graph_terms.specs.declared.decl.Decl.TheVariants.{Space, Inst, Lock, Barrier}
+use Rattle.graph_terms.specs.declared.decl.Decl.TheVariants.{Space, Inst, Data, Lock, Barrier}
 use Rattle.graph_terms.specs.declared.verb.Line.{Line}
 use Rattle.graph_terms.specs.declared.why.Why.TheVariants as why
-use Rattle.graph_terms.specs.Graph.{GraphValue, space_of, columns_of, lock_of, barrier_of, named_spaces, columns, locks, barriers}
+use Rattle.graph_terms.specs.Graph.{GraphValue, space_of, columns_of, data_columns_of, lock_of, barrier_of, named_spaces, columns, data_columns, locks, barriers}
 use Rattle.graph_terms.specs.declared.decl.ColumnInfo.{ColumnInfo}
-use Rattle.graph_terms.specs.declared.decl.BarrierInfo.{BarrierInfo}
-use Rattle.graph_terms.specs.Fits.{is_inst, is_large, has_many_spaces, is_beyond, cell_count, names_many, decl_tests, decl_fault, line_tests, line_fault, with_decl, with_line}
+use Rattle.graph_terms.specs.Fits.{is_inst, is_large, has_many_spaces, is_beyond, cell_count, names_many, accesses_many, decl_tests, decl_fault, line_tests, line_fault, with_decl, with_line}
 use Rattle.graph_terms.specs.Edges.{edges}
 use Rattle.graph_terms.specs.Limits.{limits, limits_of_three, AllowsNoMore}
 use Rattle.graph_terms.specs.Spelling.{head}
@@ -31,28 +30,29 @@ places_push : {X Y : Type 0} (f : X → Option Y) (n : ℕ) (xs : List X) (x : X
 places_push f n [] x = ap (λ k. places_of f k (x ∷ [])) (let e : n ≡ n + 0 = omega arith in e)
 places_push f n (y ∷ ys) x = cons_before (option_map (λ z. n) (f y)) _ _ _ (places_push f (n + 1) ys x ∙ ap (λ k. places_of f (n + 1) ys ++ places_of f k (x ∷ [])) (let e : (n + 1) + length ys ≡ n + suc (length ys) = omega arith in e))
 
-firsts_push : (n : ℕ) (ds : List Decl) (d : Decl) → firsts_of n (ds ++ d ∷ []) ≡ firsts_of n ds ++ (n + length (flat_map columns_of ds)) ∷ []
-firsts_push n [] d = ap (λ k. k ∷ []) (let e : n ≡ n + 0 = omega arith in e)
-firsts_push n (x ∷ xs) d =
-    let both : length (columns_of x ++ flat_map columns_of xs) ≡ length (columns_of x) + length (flat_map columns_of xs) = length-append (columns_of x) (flat_map columns_of xs) in
-    let e : (n + length (columns_of x)) + length (flat_map columns_of xs) ≡ n + length (columns_of x ++ flat_map columns_of xs) = omega (arith, both) in
-    ap (λ l. n ∷ l) (firsts_push (n + length (columns_of x)) xs d ∙ ap (λ k. firsts_of (n + length (columns_of x)) xs ++ k ∷ []) e)
+firsts_push : (f : Decl → List ColumnInfo) (n : ℕ) (ds : List Decl) (d : Decl) → firsts_of f n (ds ++ d ∷ []) ≡ firsts_of f n ds ++ (n + length (flat_map f ds)) ∷ []
+firsts_push f n [] d = ap (λ k. k ∷ []) (let e : n ≡ n + 0 = omega arith in e)
+firsts_push f n (x ∷ xs) d =
+    let both : length (f x ++ flat_map f xs) ≡ length (f x) + length (flat_map f xs) = length-append (f x) (flat_map f xs) in
+    let e : (n + length (f x)) + length (flat_map f xs) ≡ n + length (f x ++ flat_map f xs) = omega (arith, both) in
+    ap (λ l. n ∷ l) (firsts_push f (n + length (f x)) xs d ∙ ap (λ k. firsts_of f (n + length (f x)) xs ++ k ∷ []) e)
 
-pub length-firsts : (n : ℕ) (ds : List Decl) → length (firsts_of n ds) ≡ length ds
-length-firsts n [] = refl
-length-firsts n (d ∷ ds) = ap suc (length-firsts (n + length (columns_of d)) ds)
+pub length-firsts : (f : Decl → List ColumnInfo) (n : ℕ) (ds : List Decl) → length (firsts_of f n ds) ≡ length ds
+length-firsts f n [] = refl
+length-firsts f n (d ∷ ds) = ap suc (length-firsts f (n + length (f d)) ds)
 
-made : List ℕ → List ℕ → List ColumnInfo → List (List ℕ) → List BarrierInfo → TablesValue
-made s f c l b = record { space_places = s; first_columns = f; column_infos = c; lock_names = l; barrier_infos = b }
+infos_push : (f : Decl → List ColumnInfo) (ds : List Decl) (d : Decl) → flat_map f (ds ++ d ∷ []) ≡ flat_map f ds ++ f d
+infos_push f ds d = flat_map-append f ds (d ∷ []) ∙ ap (λ l. flat_map f ds ++ l) (append-nil (f d))
 
 -- the tables with one more declaration
 pub tables_push : (ds : List Decl) (d : Decl) → tables_of (ds ++ d ∷ []) ≡ tables_with (tables_of ds) d (length ds)
 tables_push ds d =
     let s : places_of space_of 0 (ds ++ d ∷ []) ≡ places_of space_of 0 ds ++ places_of space_of (length ds) (d ∷ []) =
     places_push space_of 0 ds d ∙ ap (λ k. places_of space_of 0 ds ++ places_of space_of k (d ∷ [])) (omega arith) in
-    let f : firsts_of 0 (ds ++ d ∷ []) ≡ firsts_of 0 ds ++ length (flat_map columns_of ds) ∷ [] = firsts_push 0 ds d ∙ ap (λ k. firsts_of 0 ds ++ k ∷ []) (omega arith) in
-    let c : flat_map columns_of (ds ++ d ∷ []) ≡ flat_map columns_of ds ++ columns_of d =
-    flat_map-append columns_of ds (d ∷ []) ∙ ap (λ l. flat_map columns_of ds ++ l) (append-nil (columns_of d)) in
+    let f : firsts_of columns_of 0 (ds ++ d ∷ []) ≡ firsts_of columns_of 0 ds ++ length (flat_map columns_of ds) ∷ [] = firsts_push columns_of 0 ds d ∙ ap (λ k. firsts_of columns_of 0 ds ++ k ∷ []) (omega arith) in
+    let c : flat_map columns_of (ds ++ d ∷ []) ≡ flat_map columns_of ds ++ columns_of d = infos_push columns_of ds d in
+    let fd : firsts_of data_columns_of 0 (ds ++ d ∷ []) ≡ firsts_of data_columns_of 0 ds ++ length (flat_map data_columns_of ds) ∷ [] = firsts_push data_columns_of 0 ds d ∙ ap (λ k. firsts_of data_columns_of 0 ds ++ k ∷ []) (omega arith) in
+    let cd : flat_map data_columns_of (ds ++ d ∷ []) ≡ flat_map data_columns_of ds ++ data_columns_of d = infos_push data_columns_of ds d in
     let l : filter_map lock_of (ds ++ d ∷ []) ≡ filter_map lock_of ds ++ filter_map lock_of (d ∷ []) = filter_map-append lock_of ds (d ∷ []) in
     let b : filter_map barrier_of (ds ++ d ∷ []) ≡ filter_map barrier_of ds ++ filter_map barrier_of (d ∷ []) = filter_map-append barrier_of ds (d ∷ []) in
     cc
@@ -137,7 +137,7 @@ within_limits g h =
     let text = or_parts (nat_lt (limits g.format).text (length (head g))) _ h in
     let spaces = or_parts (has_many_spaces g) _ text.1 in
     let insts = or_parts (nat_lt (limits g.format).insts (length (filter is_inst g.decls))) _ spaces.1 in
-    let cols = or_parts (nat_lt (limits g.format).columns (length (columns g))) _ insts.1 in
+    let cols = or_parts (nat_lt (limits g.format).columns (length (columns g) + length (data_columns g))) _ insts.1 in
     let cells = or_parts (nat_lt (limits g.format).cells (cell_count g)) _ cols.1 in
     let ls = or_parts (nat_lt (limits g.format).locks (length (locks g))) _ cells.1 in
     let bs = or_parts (nat_lt (limits g.format).barriers (length (barriers g))) _ ls.1 in
@@ -145,7 +145,7 @@ within_limits g h =
     limits_by g (below_most _ _ _ most.text text.0) (below_most _ _ _ most.insts insts.0) (below_most _ _ _ most.columns cols.0) (below_most _ _ _ most.cells cells.0)
     (below_most _ _ _ most.locks ls.0) (below_most _ _ _ most.barriers bs.0) (below_most _ _ _ most.lines lines.0) (below_most _ _ _ most.edges lines.1)
   where
-    limits_by : (g : GraphValue) → length (head g) ≤ 16777216 → length (filter is_inst g.decls) ≤ 1024 → length (columns g) ≤ 4096 → cell_count g ≤ 16777216 →
+    limits_by : (g : GraphValue) → length (head g) ≤ 16777216 → length (filter is_inst g.decls) ≤ 1024 → length (columns g) + length (data_columns g) ≤ 4096 → cell_count g ≤ 16777216 →
         length (locks g) ≤ 1024 → length (barriers g) ≤ 1024 → length g.lines ≤ 65536 → length (edges g) ≤ 524288 → IsWithinLimits g
     limits_by g text i c m l b n e =
         let long : 1 + length g.decls + length g.lines ≤ length (head g) = long_head g in
@@ -157,6 +157,7 @@ within_limits g h =
 space_of_is : (d : Decl) (x : List ℕ × List (ℕ × ℕ)) → space_of d ≡ Some x → d ≡ Space x.0 x.1
 space_of_is (Space name space) x e = cc
 space_of_is (Inst name space fields) x e = absurd (none-some x e)
+space_of_is (Data name space fields) x e = absurd (none-some x e)
 space_of_is (Lock name) x e = absurd (none-some x e)
 space_of_is (Barrier name count op first) x e = absurd (none-some x e)
 
@@ -192,7 +193,9 @@ space_decl_is xs s d known gives =
 
 -- a graph with one more declaration, and with one more line, is within the limits
 pub limits_decl : (g : GraphValue) (d : Decl) → decl_fault g d ≡ None → IsWithinLimits (with_decl g d)
-limits_decl g d h = within_limits (with_decl g d) (or_parts (is_large g.format d) _ (none_first (decl_tests g d) h (is_large g.format d || is_beyond (with_decl g d), why.Limit) (3, omega arith, refl))).1
+limits_decl g d h = within_limits (with_decl g d) (or_parts (is_large g.format d) _ (none_first (decl_tests g d) h (is_large g.format d || is_beyond (with_decl g d), why.Limit) (4, omega arith, refl))).1
 
 pub limits_line : (g : GraphValue) (l : Line) → line_fault g l ≡ None → IsWithinLimits (with_line g l)
-limits_line g l h = within_limits (with_line g l) (or_parts (names_many g.format l.verb l.on) _ (none_first (line_tests g l) h (names_many g.format l.verb l.on || is_beyond (with_line g l), why.Limit) (6, omega arith, refl))).1
+limits_line g l h =
+    let few = or_parts (names_many g.format l.verb l.on) _ (none_first (line_tests g l) h (names_many g.format l.verb l.on || (accesses_many l.verb || is_beyond (with_line g l)), why.Limit) (7, omega arith, refl)) in
+    within_limits (with_line g l) (or_parts (accesses_many l.verb) _ few.1).1

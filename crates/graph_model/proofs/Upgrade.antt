@@ -15,19 +15,17 @@ use Rattle.graph_terms.specs.declared.table.Place.TheVariants as places
 use Rattle.graph_terms.specs.declared.verb.Access.{Access}
 use Rattle.graph_terms.specs.declared.verb.Line.{Line}
 use Rattle.graph_terms.specs.declared.verb.Verb.{Verb}
-use Rattle.graph_terms.specs.declared.verb.Verb.TheVariants.{Merge, MergeIgnore, Arrive}
-use Rattle.graph_terms.specs.declared.why.Why.{Why}
+use Rattle.graph_terms.specs.declared.verb.Verb.TheVariants.{Merge, MergeIgnore, Arrive, Call}
 use Rattle.graph_terms.specs.declared.why.Why.TheVariants as why
 use Rattle.index_spaces.specs.Space.{space_size}
 use Rattle.graph_terms.specs.declared.limits.TheConstants.{MAX_TEXT, MAX_SPACES}
 use Rattle.graph_terms.specs.Limits.{limits, AllowsNoMore}
 use Rattle.graph_terms.specs.Format.{has_since}
-use Rattle.graph_terms.specs.Graph.{GraphValue, written_in, decl_name, named_spaces, columns, locks, barriers}
-use Rattle.graph_terms.specs.Edges.{edges}
+use Rattle.graph_terms.specs.Graph.{GraphValue, written_in, decl_name, named_spaces, columns, data_columns, locks, barriers}
 use Rattle.graph_terms.specs.Table.{verb_kind, verb_placed, kind_words, any_placed}
-use Rattle.graph_terms.specs.Access.{verb_accesses}
+use Rattle.graph_terms.specs.Access.{verb_accesses, call_accesses}
 use Rattle.graph_terms.specs.Spelling.{spelled, decl_words, place_word, verb_words, on_words, line_words, header, decls_text, lines_text, head}
-use Rattle.graph_terms.specs.Fits.{first_reason, is_inst, cell_count, has_many_spaces, decl_tests, is_used, decl_repeats, decl_unknown, decl_misnumbered, is_large, named_lines, repeats, decl_fault, place_repeats, verb_repeats, place_unknown, place_unlike, verb_unlike, on_unlike, most_weight, verb_misnumbered, access_unknown, arrives_late, names_many, format_lacks, is_beyond, line_tests, line_fault, DeclsFit, LinesFit, IsGraph}
+use Rattle.graph_terms.specs.Fits.{first_reason, is_inst, cell_count, has_many_spaces, decl_tests, is_used, decl_repeats, decl_unknown, decl_lacks, decl_misnumbered, is_large, named_lines, repeats, decl_fault, place_repeats, verb_repeats, place_unknown, place_unlike, verb_unlike, on_unlike, most_weight, verb_misnumbered, access_unknown, arrives_late, names_many, format_lacks, is_beyond, line_tests, line_fault, DeclsFit, LinesFit, IsGraph, data_unknown, verb_meets, accesses_many}
 use Rattle.graph_terms.specs.Names.{StandsFor}
 use Rattle.graph_indexes.specs.Names.{AreNamesOf, NamesValue, named}
 use Rattle.graph_indexes.specs.Rows.{RowsValue, AreRowsOf}
@@ -51,6 +49,7 @@ place_words f h ds ls = λ i p n. each p n i
 verbs_words : (f h : Format) (ds : List Decl) (ls : List Line) (v : Verb) → verb_words (of f ds ls) v ≡ verb_words (of h ds ls) v
 verbs_words f h ds ls (Merge events) = refl
 verbs_words f h ds ls (MergeIgnore events) = refl
+verbs_words f h ds ls (Call call) = refl
 verbs_words f h ds ls v = ap (λ (w : Place → ℕ → List ℕ). option_map_or kind_words (verb_kind v) [] ++ map (λ p. w p.0 p.1) (verb_placed v)) (place_words f h ds ls)
 
 ons_words : (f h : Format) (ds : List Decl) (ls : List Line) (on : List ℕ) → on_words (of f ds ls) on ≡ on_words (of h ds ls) on
@@ -107,7 +106,7 @@ within_later f h since ds ls e =
     let text = or_parts (nat_lt (limits f).text (length (head g))) _ e in
     let spaces = or_parts (has_many_spaces g) _ text.1 in
     let insts = or_parts (nat_lt (limits f).insts (length (filter is_inst ds))) _ spaces.1 in
-    let cols = or_parts (nat_lt (limits f).columns (length (columns g))) _ insts.1 in
+    let cols = or_parts (nat_lt (limits f).columns (length (columns g) + length (data_columns g))) _ insts.1 in
     let cells = or_parts (nat_lt (limits f).cells (cell_count g)) _ cols.1 in
     let rs = or_parts (nat_lt (limits f).locks (length (locks g))) _ cells.1 in
     let bs = or_parts (nat_lt (limits f).barriers (length (barriers g))) _ rs.1 in
@@ -124,10 +123,16 @@ within_later f h since ds ls e =
 -- the tests of a declaration
 unknown_alike : (f h : Format) (ds : List Decl) (d : Decl) → decl_unknown (of f ds []) d ≡ decl_unknown (of h ds []) d
 unknown_alike f h ds (decl.Inst name space fields) = refl
+unknown_alike f h ds (decl.Data name space fields) = refl
 unknown_alike f h ds d = refl
+
+lacks_in : (f h : Format) → has_since f h ≡ true → (d : Decl) → decl_lacks f d ≡ false → decl_lacks h d ≡ false
+lacks_in f h since (decl.Data name space fields) e = later_verbs f h since (Call (record { word = []; values = []; accesses = [] })) e
+lacks_in f h since d e = refl
 
 counts_fit : (f h : Format) → has_since f h ≡ true → (d : Decl) → decl_misnumbered f d ≡ false → decl_misnumbered h d ≡ false
 counts_fit f h since (decl.Inst name space fields) e = e
+counts_fit f h since (decl.Data name space fields) e = e
 counts_fit f h since (decl.Barrier name count op first) e =
     let parts = or_parts (nat_lt count 1) (nat_lt (limits f).count count) e in
     or_from (nat_lt count 1) (nat_lt (limits h).count count) parts.0 (no_more (limits f).count (limits h).count count (later_limits f h since).count parts.1)
@@ -144,17 +149,18 @@ decl_fits_in : (f h : Format) → has_since f h ≡ true → (ds : List Decl) (d
 decl_fits_in f h since ds d fits =
     let g : GraphValue = of f ds [] in
     let beyond : Bool = is_beyond (of f (ds ++ d ∷ []) []) in
-    let number : decl_misnumbered f d ≡ false = none_first (decl_tests g d) fits (decl_misnumbered f d, why.Number) (2, omega arith, refl) in
-    let limit : (is_large f d || beyond) ≡ false = none_first (decl_tests g d) fits (is_large f d || beyond, why.Limit) (3, omega arith, refl) in
+    let number : decl_misnumbered f d ≡ false = none_first (decl_tests g d) fits (decl_misnumbered f d, why.Number) (3, omega arith, refl) in
+    let lacks : decl_lacks f d ≡ false = none_first (decl_tests g d) fits (decl_lacks f d, why.Kind) (2, omega arith, refl) in
+    let limit : (is_large f d || beyond) ≡ false = none_first (decl_tests g d) fits (is_large f d || beyond, why.Limit) (4, omega arith, refl) in
     let parts = or_parts (is_large f d) beyond limit in
     let limit_later : (is_large h d || is_beyond (of h (ds ++ d ∷ []) [])) ≡ false =
     or_from _ _ (sizes_fit f h since d parts.0) (within_later f h since (ds ++ d ∷ []) [] parts.1) in
-    decl_reasons_same (is_used g (decl_name d) || decl_repeats d) _ _ _ _ _ _ (unknown_alike h f ds d) (counts_fit f h since d number ∙ sym number) (limit_later ∙ sym limit) ∙ fits
+    decl_reasons_same (is_used g (decl_name d) || decl_repeats d) _ _ _ _ _ _ _ _ (unknown_alike h f ds d) (lacks_in f h since d lacks ∙ sym lacks) (counts_fit f h since d number ∙ sym number) (limit_later ∙ sym limit) ∙ fits
   where
-    decl_reasons_same : (a b b' c c' e e' : Bool) → b ≡ b' → c ≡ c' → e ≡ e' →
-        first_reason ((a, why.Twice) ∷ (b, why.Unknown) ∷ (c, why.Number) ∷ (e, why.Limit) ∷ [])
-        ≡ first_reason ((a, why.Twice) ∷ (b', why.Unknown) ∷ (c', why.Number) ∷ (e', why.Limit) ∷ [])
-    decl_reasons_same a b b' c c' e e' p q r = cc
+    decl_reasons_same : (a b b' k k' c c' e e' : Bool) → b ≡ b' → k ≡ k' → c ≡ c' → e ≡ e' →
+        first_reason ((a, why.Twice) ∷ (b, why.Unknown) ∷ (k, why.Kind) ∷ (c, why.Number) ∷ (e, why.Limit) ∷ [])
+        ≡ first_reason ((a, why.Twice) ∷ (b', why.Unknown) ∷ (k', why.Kind) ∷ (c', why.Number) ∷ (e', why.Limit) ∷ [])
+    decl_reasons_same a b b' k k' c c' e e' p q r s = cc
 
 decls_fit_in : (f h : Format) → has_since f h ≡ true → (before ds : List Decl) → DeclsFit f before ds → DeclsFit h before ds
 decls_fit_in f h since before [] fits = tt
@@ -210,6 +216,7 @@ numbers_fit f h s (Arrive phase value weight) e =
     let most : weight ≤ most_weight f = ltb-false (most_weight f) weight parts.1 in
     let more : most_weight f ≤ most_weight h = weights f h s in
     or_from (nat_lt weight 1) (nat_lt (most_weight h) weight) parts.0 (le-ltb (most_weight h) weight (omega (arith, most, more)))
+numbers_fit f h s (Call call) e = e
 numbers_fit f h s v e = refl
 
 line_fits_in : (f h : Format) → has_since f h ≡ true → (ds : List Decl) (ls : List Line) (l : Line) → line_fault (of f ds ls) l ≡ None → line_fault (of h ds ls) l ≡ None
@@ -219,16 +226,17 @@ line_fits_in f h since ds ls l fits =
     let g : GraphValue = of f ds ls in
     let numbers_repeat : Bool = repeats nat_eq (map (λ (a : Access). a.column) (verb_accesses l.verb)) || repeats nat_eq l.on in
     let lines_unknown : Bool = list_any (λ i. nat_le (length ls) i) (named_lines l.verb ++ l.on) in
-    let reaches_unknown : Bool = list_any (access_unknown g) (verb_accesses l.verb) in
+    let reaches_unknown : Bool = list_any (access_unknown g) (verb_accesses l.verb) || list_any (data_unknown g) (call_accesses l.verb) in
     let kind = kind_fits g l fits in
     let taken : on_unlike f l.verb l.on ≡ false = kind.1 in
     let lacks : format_lacks f l.verb ≡ false = kind.2 in
     let beyond : Bool = is_beyond (of f ds (ls ++ l ∷ [])) in
-    let limit : (names_many f l.verb l.on || beyond) ≡ false = none_first (line_tests g l) fits (names_many f l.verb l.on || beyond, why.Limit) (6, omega arith, refl) in
-    let few = or_parts (names_many f l.verb l.on) beyond limit in
-    let limit_later : (names_many h l.verb l.on || is_beyond (of h ds (ls ++ l ∷ []))) ≡ false =
-    or_from _ _ (later_many f h since l.verb l.on few.0) (within_later f h since ds (ls ++ l ∷ []) few.1) in
-    line_reasons_same _ _ _ _ _ _ _ _ _ _ _ _ _ _
+    let limit : (names_many f l.verb l.on || (accesses_many l.verb || beyond)) ≡ false = none_first (line_tests g l) fits (names_many f l.verb l.on || (accesses_many l.verb || beyond), why.Limit) (7, omega arith, refl) in
+    let few = or_parts (names_many f l.verb l.on) (accesses_many l.verb || beyond) limit in
+    let short = or_parts (accesses_many l.verb) beyond few.1 in
+    let limit_later : (names_many h l.verb l.on || (accesses_many l.verb || is_beyond (of h ds (ls ++ l ∷ [])))) ≡ false =
+    or_from _ _ (later_many f h since l.verb l.on few.0) (or_from _ _ short.0 (within_later f h since ds (ls ++ l ∷ []) short.1)) in
+    line_reasons_same _ _ _ _ _ _ _ _ _ _ (verb_meets g l.verb) _ _ _ _
     (ap (λ b. is_used g l.name || (b || numbers_repeat)) (sym (verbs_repeat f h ds ls l.verb)))
     (ap (λ (t : Place → ℕ → Bool). lines_unknown || (any_placed t (verb_placed l.verb) || reaches_unknown)) (sym (places_unknown f h ds ls)))
     (ap (λ (t : Place → ℕ → Bool). any_placed t (verb_placed l.verb) || (on_unlike h l.verb l.on || format_lacks h l.verb)) (sym (places_unlike f h ds ls))
@@ -240,10 +248,10 @@ line_fits_in f h since ds ls l fits =
     (limit_later ∙ sym limit)
     ∙ fits
   where
-    line_reasons_same : (a a' b b' c c' d d' e e' x x' y y' : Bool) → a ≡ a' → b ≡ b' → c ≡ c' → d ≡ d' → e ≡ e' → x ≡ x' → y ≡ y' →
-        first_reason ((a, why.Twice) ∷ (b, why.Unknown) ∷ (c, why.Kind) ∷ (d, why.Number) ∷ (e, why.Outside) ∷ (x, why.Arrivals) ∷ (y, why.Limit) ∷ [])
-        ≡ first_reason ((a', why.Twice) ∷ (b', why.Unknown) ∷ (c', why.Kind) ∷ (d', why.Number) ∷ (e', why.Outside) ∷ (x', why.Arrivals) ∷ (y', why.Limit) ∷ [])
-    line_reasons_same a a' b b' c c' d d' e e' x x' y y' p q r s t u v = cc
+    line_reasons_same : (a a' b b' c c' d d' e e' m x x' y y' : Bool) → a ≡ a' → b ≡ b' → c ≡ c' → d ≡ d' → e ≡ e' → x ≡ x' → y ≡ y' →
+        first_reason ((a, why.Twice) ∷ (b, why.Unknown) ∷ (c, why.Kind) ∷ (d, why.Number) ∷ (e, why.Outside) ∷ (m, why.Meets) ∷ (x, why.Arrivals) ∷ (y, why.Limit) ∷ [])
+        ≡ first_reason ((a', why.Twice) ∷ (b', why.Unknown) ∷ (c', why.Kind) ∷ (d', why.Number) ∷ (e', why.Outside) ∷ (m, why.Meets) ∷ (x', why.Arrivals) ∷ (y', why.Limit) ∷ [])
+    line_reasons_same a a' b b' c c' d d' e e' m x x' y y' p q r s t u v = cc
 
 lines_fit_in : (f h : Format) → has_since f h ≡ true → (ds : List Decl) (before ls : List Line) → LinesFit f ds before ls → LinesFit h ds before ls
 lines_fit_in f h since ds before [] fits = tt
@@ -272,6 +280,7 @@ written_limits h g w = record {
 stands : (h : Format) (g : GraphValue) (name : List ℕ) (x : Found) → StandsFor g name x → StandsFor (written_in h g) name x
 stands h g name (found.Space s) e = e
 stands h g name (found.Inst d) e = e
+stands h g name (found.Data d) e = e
 stands h g name (found.Lock l) e = e
 stands h g name (found.Barrier b) e = e
 stands h g name (found.Line i) e = e

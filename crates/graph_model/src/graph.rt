@@ -1,6 +1,8 @@
 //! What a graph is: declarations and lines, and which items fit.
 
-pub(crate) mod edges;
+mod call_sizes;
+mod calls;
+mod data;
 mod faults;
 mod quantities;
 mod sizes;
@@ -10,12 +12,12 @@ ghost use Rattle.std.specs.Prelude.{◌≡◌, ◌≤◌, Some, position, IfSome
 ghost use Rattle.std.specs.Str.{bytes_eq};
 ghost use Rattle.graph_terms.specs.Graph.{upgraded_format};
 
-use crate::graph::edges::list_edges;
 use graph_indexes::counts::Counts;
 use graph_indexes::mark::Mark;
 use graph_indexes::names::Names;
 use graph_indexes::rows::Rows;
 use graph_indexes::tables::Tables;
+use graph_items::edges::list_edges;
 use graph_terms::access::{Accesses, in_format, verb_accesses};
 use graph_terms::decl::{BarrierInfo, Decl};
 use graph_terms::format::Format;
@@ -50,7 +52,7 @@ pub struct Graph {
     format: Format,
     decls: Vec<Decl>,
     lines: Vec<Line>,
-    /// For each line what it reads and writes.
+    /// For each line what it reads and writes of columns of instances.
     accesses: Vec<Accesses>,
     tables: Tables,
     names: Names,
@@ -428,7 +430,8 @@ impl Graph {
         self.rows.edges_from(i)
     }
 
-    /// The access of number `k` of a line. `None` exactly where it has at most `k`.
+    /// The access of number `k` of a line to columns of instances. `None` exactly where it has at most
+    /// `k`; a call has none.
     pub fn access(&self, i: u32, k: u32) -> Option<Access>
         requires { i < length self.now.lines }
         ensures { result ≡ slice_get (accesses self.now i) k }
@@ -514,13 +517,14 @@ impl Graph {
         match decl {
             Decl::Space { .. } => Found::Space(self.spaces()),
             Decl::Inst { .. } => Found::Inst(self.decls()),
+            Decl::Data { .. } => Found::Data(self.decls()),
             Decl::Lock { .. } => Found::Lock(self.locks()),
             Decl::Barrier { .. } => Found::Barrier(self.barriers()),
         }
     }
 }
 
-/// The place of a name among the fields of an instance, where it is below that of the most columns.
+/// The place of a name among the fields of an instance or of data, where it is below that of the most columns.
 fn field_place(fields: &[Name], wanted: &Name) -> Option<u32>
     ensures { IfSome result (λ place. (place ≤ MAX_COLUMNS_OF_THREE) × (position (λ f. bytes_eq f wanted.now) fields.now ≡ Some place)) }
 {

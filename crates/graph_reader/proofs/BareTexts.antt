@@ -8,7 +8,7 @@ use Rattle.graph_terms.specs.Fits.{IsGraph}
 use Rattle.graph_words.specs.Words.{pieces}
 use Rattle.graph_words.specs.Text.{text, closing, has_comments, bare_of}
 use Rattle.graph_reader.specs.Laws.{TextsAreBare}
-use Rattle.graph_reader.proofs.WordFacts.{joined_pieces}
+use Rattle.word_meanings.proofs.Public.{joined_pieces}
 use Rattle.graph_reader.proofs.TextLines.{ArePlain, line_text, head_pieces}
 use Rattle.basics.proofs.TestedLists.{each_append}
 

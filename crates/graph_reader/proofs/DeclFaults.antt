@@ -3,17 +3,20 @@ use Rattle.std.proofs.Common.{append-nil, length-append, inr, ◌⊎◌, ◌≡�
 use Rattle.std.specs.Prelude.{Option, Some, None, Result, Ok, Err, is_some, unwrap_or, position, bytes_eq, nat_lt, nat_le, flat_map, filter}
 use Rattle.std.specs.Option.{option_map_or}
 use Rattle.std.specs.List.{list_all}
-use Rattle.std.proofs.lemmas.Bool.{lt-ltb, le-ltb, or_right, or_left, ltb-true, ltb-false, le-leb, lt-leb, cond-true, cond-false}
+use Rattle.std.proofs.lemmas.Bool.{true≢false, lt-ltb, le-ltb, or_right, or_left, ltb-true, ltb-false, le-leb, lt-leb, cond-true, cond-false}
 use Rattle.index_spaces.specs.declared.Op.{Op}
 use Rattle.graph_terms.specs.declared.decl.Decl.{Decl}
 use Rattle.graph_terms.specs.declared.decl.Decl.TheVariants as decl
 use Rattle.graph_terms.specs.declared.verb.Line.{Line}
 use Rattle.graph_terms.specs.declared.why.Why.{Why}
 use Rattle.graph_terms.specs.declared.why.Why.TheVariants as why
-use Rattle.graph_terms.specs.Graph.{GraphValue, named_spaces, columns, columns_of}
+use Rattle.graph_terms.specs.Graph.{GraphValue, named_spaces, columns, columns_of, data_columns, data_columns_of}
 use Rattle.index_spaces.specs.Space.{space_size}
 use Rattle.index_spaces.specs.declared.limits.SpaceLimits.{SpaceLimits}
 use Rattle.graph_terms.specs.Limits.{limits}
+use Rattle.graph_terms.specs.Format.{has_since}
+use Rattle.graph_terms.specs.declared.format.Format.TheVariants.{Three}
+use Rattle.word_meanings.specs.Lookups.{kept_columns}
 use Rattle.std.proofs.lemmas.Option.{none-some, same_Some}
 use Rattle.std.proofs.lemmas.Grind.{flat_map-append}
 use Rattle.std.proofs.lemmas.List.{length-map}
@@ -21,18 +24,19 @@ use Rattle.graph_terms.specs.Name.{is_name_in}
 use Rattle.graph_terms.specs.Spelling.{head}
 use Rattle.graph_terms.specs.Fits.{first_reason, repeats, is_used, decl_fault, is_inst, has_many_spaces, is_beyond, with_decl}
 use Rattle.graph_words.specs.Words.{pieces, count_of, value_of, intervals_of, ascend_from, is_fields}
-use Rattle.graph_words.specs.Draft.{Draft, NewName, SpaceName, space_with, inst_with, lock_with, barrier_with, space_number}
-use Rattle.graph_reader.specs.FirstFault.{draft_tests, draft_fault, or_else, unlike, item_fault}
+use Rattle.graph_words.specs.Draft.{Draft, NewName, SpaceName, space_with, columns_decl, columns_with, lock_with, barrier_with, space_number}
+use Rattle.graph_reader.specs.FirstFault.{draft_tests, draft_fault, or_else, item_fault}
+use Rattle.word_meanings.specs.WordFaults.{unlike}
 use Rattle.index_spaces.specs.declared.space.SpaceFault.{SpaceFault}
 use Rattle.index_spaces.specs.declared.space.SpaceFault.TheVariants as spaces
 use Rattle.index_spaces.specs.SpaceFault.{first_misplaced, space_fault_in, or_too_large}
-use Rattle.graph_reader.proofs.Places.{IsFine}
+use Rattle.word_meanings.specs.Places.{IsFine}
 use Rattle.graph_reader.proofs.Drafts.{fine_words}
-use Rattle.graph_reader.proofs.Owners.{position_below}
+use Rattle.std.proofs.lemmas.List.Quantifiers.{position-Some}
 use Rattle.basics.proofs.TestedLists.{position_any}
 use Rattle.graph_reader.specs.declared.item.ItemError.{ItemError}
 use Rattle.graph_reader.specs.declared.item.ItemError.TheVariants as errors
-use Rattle.graph_reader.specs.Reading.{IsDeclBy, IsDeclRead, space_error, space_reason, inst_reason, inst_decl}
+use Rattle.graph_reader.specs.Reading.{IsDeclBy, IsDeclRead, space_error, space_reason, columns_reason, spelled_columns, columns_lack}
 
 -- what is left for the declaration that the words spell
 pub read_by : (g : GraphValue) (d : Draft) (x : Decl) (r : Option Why) (result : Result Decl ItemError) → draft_fault g d ≡ r → d.item ≡ inl x → IsDeclBy r x result → IsDeclRead g d result
@@ -226,61 +230,82 @@ space_is g name new w is n e u i =
       item ∙ ap (λ x. as_space x is) (sym e),
     )
 
--- instances
-pub inst_reason_is : (g : GraphValue) (name space : List ℕ) (fields : List (List ℕ)) (r k l : Bool) → repeats bytes_eq fields ≡ r → is_used g space ≡ k → unlike g SpaceName space ≡ l →
-    inst_reason g name space fields ≡ or_else (first_reason ((r, why.Twice) ∷ (not k, why.Unknown) ∷ (l, why.Kind) ∷ [])) (decl_fault g (inst_decl g name space fields))
-inst_reason_is g name space fields r k l a b c =
-    ap (λ x. or_else (first_reason ((x, why.Twice) ∷ (not (is_used g space), why.Unknown) ∷ (unlike g SpaceName space, why.Kind) ∷ [])) (decl_fault g (inst_decl g name space fields))) a
-    ∙ (ap (λ x. or_else (first_reason ((r, why.Twice) ∷ (not x, why.Unknown) ∷ (unlike g SpaceName space, why.Kind) ∷ [])) (decl_fault g (inst_decl g name space fields))) b
-    ∙ ap (λ x. or_else (first_reason ((r, why.Twice) ∷ (not k, why.Unknown) ∷ (x, why.Kind) ∷ [])) (decl_fault g (inst_decl g name space fields))) c)
+-- instances and data
+pub columns_reason_is : (g : GraphValue) (hosted : Bool) (name space : List ℕ) (fields : List (List ℕ)) (r k l : Bool) → repeats bytes_eq fields ≡ r → is_used g space ≡ k → unlike g SpaceName space ≡ l →
+    columns_reason g hosted name space fields ≡ or_else (first_reason ((r, why.Twice) ∷ (not k, why.Unknown) ∷ (l, why.Kind) ∷ [])) (decl_fault g (spelled_columns g hosted name space fields))
+columns_reason_is g hosted name space fields r k l a b c =
+    ap (λ x. or_else (first_reason ((x, why.Twice) ∷ (not (is_used g space), why.Unknown) ∷ (unlike g SpaceName space, why.Kind) ∷ [])) (decl_fault g (spelled_columns g hosted name space fields))) a
+    ∙ (ap (λ x. or_else (first_reason ((r, why.Twice) ∷ (not x, why.Unknown) ∷ (unlike g SpaceName space, why.Kind) ∷ [])) (decl_fault g (spelled_columns g hosted name space fields))) b
+    ∙ ap (λ x. or_else (first_reason ((r, why.Twice) ∷ (not k, why.Unknown) ∷ (x, why.Kind) ∷ [])) (decl_fault g (spelled_columns g hosted name space fields))) c)
 
-inst_six : (r k l : Bool) (rest : Option Why) → or_else (first_reason ((false, why.Name) ∷ ((false || (false || (r || false))) || (false || false), why.Twice) ∷ (false || (k || (false || false)), why.Unknown) ∷ (false || (l || (false || false)), why.Kind) ∷ (false, why.Number) ∷ (false, why.Space) ∷ [])) rest
+columns_six : (r k l : Bool) (rest : Option Why) → or_else (first_reason ((false, why.Name) ∷ ((false || (false || (r || false))) || (false || false), why.Twice) ∷ (false || (k || (false || false)), why.Unknown) ∷ (false || (l || (false || false)), why.Kind) ∷ (false, why.Number) ∷ (false, why.Space) ∷ [])) rest
     ≡ or_else (first_reason ((r, why.Twice) ∷ (k, why.Unknown) ∷ (l, why.Kind) ∷ [])) rest
-inst_six true k l rest = refl
-inst_six false true l rest = refl
-inst_six false false true rest = refl
-inst_six false false false rest = refl
+columns_six true k l rest = refl
+columns_six false true l rest = refl
+columns_six false false true rest = refl
+columns_six false false false rest = refl
 
-abbrev as_inst : GraphValue → List ℕ → List ℕ → List (List ℕ) → Decl ⊎ Line
-as_inst g name space fields = inl (inst_decl g name space fields)
+abbrev as_columns : GraphValue → Bool → List ℕ → List ℕ → List (List ℕ) → Decl ⊎ Line
+as_columns g hosted name space fields = inl (spelled_columns g hosted name space fields)
 
-pub inst_is : (g : GraphValue) (name new space w : List ℕ) (fields : List (List ℕ)) → is_name_in g.format name ≡ true → new ≡ name → is_name_in g.format space ≡ true → list_all (is_name_in g.format) (pieces 44 w) ≡ true → fields ≡ pieces 44 w → is_used g name ≡ false →
-    (draft_fault g (inst_with g name space w) ≡ inst_reason g new space fields) × ((inst_with g name space w).item ≡ as_inst g new space fields)
-inst_is g name new space w fields n e s f is u = (
+pub columns_is : (g : GraphValue) (hosted : Bool) (name new space w : List ℕ) (fields : List (List ℕ)) → is_name_in g.format name ≡ true → new ≡ name → is_name_in g.format space ≡ true → list_all (is_name_in g.format) (pieces 44 w) ≡ true → fields ≡ pieces 44 w → is_used g name ≡ false →
+    (draft_fault g (columns_with g hosted name space w) ≡ columns_reason g hosted new space fields) × ((columns_with g hosted name space w).item ≡ as_columns g hosted new space fields)
+columns_is g hosted name new space w fields n e s f is u = (
   ap (λ b. or_else (first_reason ((not b || (not (is_name_in g.format space) || (not (is_fields g.format w) || false)), why.Name) ∷ ((is_used g name || (false || (repeats bytes_eq (pieces 44 w) || false))) || (false || false), why.Twice)
-      ∷ (false || (not (is_used g space) || (false || false)), why.Unknown) ∷ (false || (unlike g SpaceName space || (false || false)), why.Kind) ∷ (false, why.Number) ∷ (false, why.Space) ∷ [])) (decl_fault g (inst_decl g name space (pieces 44 w)))) n
+      ∷ (false || (not (is_used g space) || (false || false)), why.Unknown) ∷ (false || (unlike g SpaceName space || (false || false)), why.Kind) ∷ (false, why.Number) ∷ (false, why.Space) ∷ [])) (decl_fault g (spelled_columns g hosted name space (pieces 44 w)))) n
       ∙ (ap (λ b. or_else (first_reason ((not b || (not (is_fields g.format w) || false), why.Name) ∷ ((is_used g name || (false || (repeats bytes_eq (pieces 44 w) || false))) || (false || false), why.Twice)
-      ∷ (false || (not (is_used g space) || (false || false)), why.Unknown) ∷ (false || (unlike g SpaceName space || (false || false)), why.Kind) ∷ (false, why.Number) ∷ (false, why.Space) ∷ [])) (decl_fault g (inst_decl g name space (pieces 44 w)))) s
+      ∷ (false || (not (is_used g space) || (false || false)), why.Unknown) ∷ (false || (unlike g SpaceName space || (false || false)), why.Kind) ∷ (false, why.Number) ∷ (false, why.Space) ∷ [])) (decl_fault g (spelled_columns g hosted name space (pieces 44 w)))) s
       ∙ (ap (λ b. or_else (first_reason ((not b || false, why.Name) ∷ ((is_used g name || (false || (repeats bytes_eq (pieces 44 w) || false))) || (false || false), why.Twice)
-      ∷ (false || (not (is_used g space) || (false || false)), why.Unknown) ∷ (false || (unlike g SpaceName space || (false || false)), why.Kind) ∷ (false, why.Number) ∷ (false, why.Space) ∷ [])) (decl_fault g (inst_decl g name space (pieces 44 w)))) f
+      ∷ (false || (not (is_used g space) || (false || false)), why.Unknown) ∷ (false || (unlike g SpaceName space || (false || false)), why.Kind) ∷ (false, why.Number) ∷ (false, why.Space) ∷ [])) (decl_fault g (spelled_columns g hosted name space (pieces 44 w)))) f
       ∙ (ap (λ b. or_else (first_reason ((false, why.Name) ∷ ((b || (false || (repeats bytes_eq (pieces 44 w) || false))) || (false || false), why.Twice)
-      ∷ (false || (not (is_used g space) || (false || false)), why.Unknown) ∷ (false || (unlike g SpaceName space || (false || false)), why.Kind) ∷ (false, why.Number) ∷ (false, why.Space) ∷ [])) (decl_fault g (inst_decl g name space (pieces 44 w)))) u
-      ∙ (inst_six (repeats bytes_eq (pieces 44 w)) (not (is_used g space)) (unlike g SpaceName space) (decl_fault g (inst_decl g name space (pieces 44 w)))
-      ∙ (ap (λ x. inst_reason g x space (pieces 44 w)) (sym e) ∙ ap (inst_reason g new space) (sym is)))))),
-  ap (λ x. as_inst g x space (pieces 44 w)) (sym e) ∙ ap (as_inst g new space) (sym is),
+      ∷ (false || (not (is_used g space) || (false || false)), why.Unknown) ∷ (false || (unlike g SpaceName space || (false || false)), why.Kind) ∷ (false, why.Number) ∷ (false, why.Space) ∷ [])) (decl_fault g (spelled_columns g hosted name space (pieces 44 w)))) u
+      ∙ (columns_six (repeats bytes_eq (pieces 44 w)) (not (is_used g space)) (unlike g SpaceName space) (decl_fault g (spelled_columns g hosted name space (pieces 44 w)))
+      ∙ (ap (λ x. columns_reason g hosted x space (pieces 44 w)) (sym e) ∙ ap (columns_reason g hosted new space) (sym is)))))),
+  ap (λ x. as_columns g hosted x space (pieces 44 w)) (sym e) ∙ ap (as_columns g hosted new space) (sym is),
 )
 
-column_count : (g : GraphValue) (name : List ℕ) (space : ℕ) (fields : List (List ℕ)) → length (columns (with_decl g (decl.Inst name space fields))) ≡ length (columns g) + length fields
-column_count g name space fields =
+column_count : (g : GraphValue) (hosted : Bool) (name : List ℕ) (space : ℕ) (fields : List (List ℕ)) → length (kept_columns hosted (with_decl g (columns_decl hosted name space fields))) ≡ length (kept_columns hosted g) + length fields
+column_count g false name space fields =
     ap length (flat_map-append columns_of g.decls (decl.Inst name space fields ∷ []))
     ∙ (length-append (columns g) (flat_map columns_of (decl.Inst name space fields ∷ []))
     ∙ ap (λ n. length (columns g) + n) (ap length (append-nil (columns_of (decl.Inst name space fields))) ∙ length-map fields _))
+column_count g true name space fields =
+    ap length (flat_map-append data_columns_of g.decls (decl.Data name space fields ∷ []))
+    ∙ (length-append (data_columns g) (flat_map data_columns_of (decl.Data name space fields ∷ []))
+    ∙ ap (λ n. length (data_columns g) + n) (ap length (append-nil (data_columns_of (decl.Data name space fields))) ∙ length-map fields _))
 
 -- more columns than the format allows
-many_columns : (g : GraphValue) → (limits g.format).columns < length (columns g) → is_beyond g ≡ true
+many_columns : (g : GraphValue) → (limits g.format).columns < length (columns g) + length (data_columns g) → is_beyond g ≡ true
 many_columns g l = or_right (nat_lt (limits g.format).text (length (head g))) _ (or_right (has_many_spaces g) _ (or_right (nat_lt (limits g.format).insts (length (filter is_inst g.decls))) _
-    (or_left (nat_lt (limits g.format).columns (length (columns g))) _ (lt-ltb (limits g.format).columns (length (columns g)) l))))
+    (or_left (nat_lt (limits g.format).columns (length (columns g) + length (data_columns g))) _ (lt-ltb (limits g.format).columns (length (columns g) + length (data_columns g)) l))))
+
+many_by : (g : GraphValue) (hosted : Bool) → (limits g.format).columns < length (kept_columns hosted g) → is_beyond g ≡ true
+many_by g false l = many_columns g (omega arith)
+many_by g true l = many_columns g (omega arith)
+
+-- the last reason is left where no other is
+limit_by : (u r s k m l : Bool) → u ≡ false → r ≡ false → s ≡ false → k ≡ false → m ≡ false → l ≡ true →
+    first_reason ((u || r, why.Twice) ∷ (s, why.Unknown) ∷ (k, why.Kind) ∷ (m, why.Number) ∷ (l, why.Limit) ∷ []) ≡ Some why.Limit
+limit_by false false false false false true a b c d e f = refl
+limit_by true r s k m l a b c d e f = absurd (true≢false a)
+limit_by false true s k m l a b c d e f = absurd (true≢false b)
+limit_by false false true k m l a b c d e f = absurd (true≢false c)
+limit_by false false false true m l a b c d e f = absurd (true≢false d)
+limit_by false false false false true l a b c d e f = absurd (true≢false e)
+limit_by false false false false false false a b c d e f = absurd (true≢false (sym f))
 
 -- more fields than a graph may have columns
-pub fields_limit : (g : GraphValue) (name : List ℕ) (space : List ℕ) (fields : List (List ℕ)) → is_used g name ≡ false → repeats bytes_eq fields ≡ false → space_number g space < length (named_spaces g) → (limits g.format).columns < length fields → decl_fault g (inst_decl g name space fields) ≡ Some why.Limit
-fields_limit g name space fields u r s l =
-    ap (λ b. first_reason ((b || repeats bytes_eq fields, why.Twice) ∷ (nat_le (length (named_spaces g)) (space_number g space), why.Unknown) ∷ (nat_lt (length fields) 1, why.Number) ∷ (beyond_with g (inst_decl g name space fields), why.Limit) ∷ [])) u
-    ∙ (ap (λ b. first_reason ((b, why.Twice) ∷ (nat_le (length (named_spaces g)) (space_number g space), why.Unknown) ∷ (nat_lt (length fields) 1, why.Number) ∷ (beyond_with g (inst_decl g name space fields), why.Limit) ∷ [])) r
-    ∙ (ap (λ b. first_reason ((false, why.Twice) ∷ (b, why.Unknown) ∷ (nat_lt (length fields) 1, why.Number) ∷ (beyond_with g (inst_decl g name space fields), why.Limit) ∷ [])) (lt-leb (length (named_spaces g)) (space_number g space) s)
-    ∙ (ap (λ b. first_reason ((false, why.Twice) ∷ (false, why.Unknown) ∷ (b, why.Number) ∷ (beyond_with g (inst_decl g name space fields), why.Limit) ∷ [])) (le-ltb (length fields) 1 (omega arith))
-    ∙ ap (λ b. first_reason ((false, why.Twice) ∷ (false, why.Unknown) ∷ (false, why.Number) ∷ (b, why.Limit) ∷ []))
-    (many_columns (with_decl g (inst_decl g name space fields))
-    (let n : length (columns (with_decl g (inst_decl g name space fields))) ≡ length (columns g) + length fields = column_count g name (space_number g space) fields in omega arith)))))
+fields_by : (g : GraphValue) (hosted : Bool) (name : List ℕ) (space : ℕ) (fields : List (List ℕ)) → columns_lack g.format hosted ≡ false → is_used g name ≡ false → repeats bytes_eq fields ≡ false → nat_le (length (named_spaces g)) space ≡ false → nat_lt (length fields) 1 ≡ false →
+    is_beyond (with_decl g (columns_decl hosted name space fields)) ≡ true → decl_fault g (columns_decl hosted name space fields) ≡ Some why.Limit
+fields_by g false name space fields t u r s n l = limit_by (is_used g name) (repeats bytes_eq fields) (nat_le (length (named_spaces g)) space) false (nat_lt (length fields) 1) (is_beyond (with_decl g (decl.Inst name space fields))) u r s refl n l
+fields_by g true name space fields t u r s n l = limit_by (is_used g name) (repeats bytes_eq fields) (nat_le (length (named_spaces g)) space) (not (has_since Three g.format)) (nat_lt (length fields) 1) (is_beyond (with_decl g (decl.Data name space fields))) u r s t n l
+
+pub fields_limit : (g : GraphValue) (hosted : Bool) (name : List ℕ) (space : List ℕ) (fields : List (List ℕ)) → columns_lack g.format hosted ≡ false → is_used g name ≡ false → repeats bytes_eq fields ≡ false → space_number g space < length (named_spaces g) → (limits g.format).columns < length fields →
+    decl_fault g (spelled_columns g hosted name space fields) ≡ Some why.Limit
+fields_limit g hosted name space fields t u r s l =
+    fields_by g hosted name (space_number g space) fields t u r (lt-leb (length (named_spaces g)) (space_number g space) s) (le-ltb (length fields) 1 (omega arith))
+    (many_by (with_decl g (spelled_columns g hosted name space fields)) hosted
+    (let n : length (kept_columns hosted (with_decl g (spelled_columns g hosted name space fields))) ≡ length (kept_columns hosted g) + length fields = column_count g hosted name (space_number g space) fields in omega arith))
 
 abbrev space_place : GraphValue → List ℕ → Option ℕ
 space_place g w = position (λ (x : List ℕ × List (ℕ × ℕ)). bytes_eq x.0 w) (named_spaces g)
@@ -288,20 +313,20 @@ space_place g w = position (λ (x : List ℕ × List (ℕ × ℕ)). bytes_eq x.0
 unlike_space : (g : GraphValue) (space : List ℕ) (o : Option ℕ) → space_place g space ≡ o → unlike g SpaceName space ≡ not (is_some o)
 unlike_space g space o h = ap not (position_any (λ (x : List ℕ × List (ℕ × ℕ)). bytes_eq x.0 space) (named_spaces g) ∙ ap is_some h)
 
-pub inst_unlike : (g : GraphValue) (name space : List ℕ) (fields : List (List ℕ)) → repeats bytes_eq fields ≡ false → is_used g space ≡ true → space_place g space ≡ None → inst_reason g name space fields ≡ Some why.Kind
-inst_unlike g name space fields r u p = inst_reason_is g name space fields false true true r u (unlike_space g space None p)
+pub columns_unlike : (g : GraphValue) (hosted : Bool) (name space : List ℕ) (fields : List (List ℕ)) → repeats bytes_eq fields ≡ false → is_used g space ≡ true → space_place g space ≡ None → columns_reason g hosted name space fields ≡ Some why.Kind
+columns_unlike g hosted name space fields r u p = columns_reason_is g hosted name space fields false true true r u (unlike_space g space None p)
 
-pub inst_left : (g : GraphValue) (name space : List ℕ) (fields : List (List ℕ)) (s : ℕ) → repeats bytes_eq fields ≡ false → is_used g space ≡ true → space_place g space ≡ Some s → inst_reason g name space fields ≡ decl_fault g (inst_decl g name space fields)
-inst_left g name space fields s r u p = inst_reason_is g name space fields false true false r u (unlike_space g space (Some s) p)
+pub columns_left : (g : GraphValue) (hosted : Bool) (name space : List ℕ) (fields : List (List ℕ)) (s : ℕ) → repeats bytes_eq fields ≡ false → is_used g space ≡ true → space_place g space ≡ Some s → columns_reason g hosted name space fields ≡ decl_fault g (spelled_columns g hosted name space fields)
+columns_left g hosted name space fields s r u p = columns_reason_is g hosted name space fields false true false r u (unlike_space g space (Some s) p)
 
-pub inst_number : (g : GraphValue) (space : List ℕ) (s : ℕ) → space_place g space ≡ Some s → space_number g space ≡ s
-inst_number g space s p = ap (λ o. unwrap_or o 0) p
+pub space_number_is : (g : GraphValue) (space : List ℕ) (s : ℕ) → space_place g space ≡ Some s → space_number g space ≡ s
+space_number_is g space s p = ap (λ o. unwrap_or o 0) p
 
-pub inst_ok : (g : GraphValue) (name space : List ℕ) (fields : List (List ℕ)) (s : ℕ) (result : Result Decl ItemError) → repeats bytes_eq fields ≡ false → is_used g space ≡ true → space_place g space ≡ Some s →
-    IsDeclBy (decl_fault g (decl.Inst name s fields)) (decl.Inst name s fields) result → IsDeclBy (inst_reason g name space fields) (inst_decl g name space fields) result
-inst_ok g name space fields s result r u p h = subst (λ x. IsDeclBy x (inst_decl g name space fields) result) (sym (inst_left g name space fields s r u p))
-    (subst (λ n. IsDeclBy (decl_fault g (decl.Inst name n fields)) (decl.Inst name n fields) result) (sym (inst_number g space s p)) h)
+pub columns_ok : (g : GraphValue) (hosted : Bool) (name space : List ℕ) (fields : List (List ℕ)) (s : ℕ) (result : Result Decl ItemError) → repeats bytes_eq fields ≡ false → is_used g space ≡ true → space_place g space ≡ Some s →
+    IsDeclBy (decl_fault g (columns_decl hosted name s fields)) (columns_decl hosted name s fields) result → IsDeclBy (columns_reason g hosted name space fields) (spelled_columns g hosted name space fields) result
+columns_ok g hosted name space fields s result r u p h = subst (λ x. IsDeclBy x (spelled_columns g hosted name space fields) result) (sym (columns_left g hosted name space fields s r u p))
+    (subst (λ n. IsDeclBy (decl_fault g (columns_decl hosted name n fields)) (columns_decl hosted name n fields) result) (sym (space_number_is g space s p)) h)
 
-pub inst_many : (g : GraphValue) (name space : List ℕ) (fields : List (List ℕ)) (s : ℕ) → is_used g name ≡ false → repeats bytes_eq fields ≡ false → is_used g space ≡ true → space_place g space ≡ Some s → (limits g.format).columns < length fields → inst_reason g name space fields ≡ Some why.Limit
-inst_many g name space fields s n r u p l = inst_left g name space fields s r u p ∙ fields_limit g name space fields n r
-    (let e : space_number g space ≡ s = inst_number g space s p in let b : s < length (named_spaces g) = position_below (λ (x : List ℕ × List (ℕ × ℕ)). bytes_eq x.0 space) (named_spaces g) s p in omega arith) l
+pub columns_many : (g : GraphValue) (hosted : Bool) (name space : List ℕ) (fields : List (List ℕ)) (s : ℕ) → columns_lack g.format hosted ≡ false → is_used g name ≡ false → repeats bytes_eq fields ≡ false → is_used g space ≡ true → space_place g space ≡ Some s → (limits g.format).columns < length fields → columns_reason g hosted name space fields ≡ Some why.Limit
+columns_many g hosted name space fields s t n r u p l = columns_left g hosted name space fields s r u p ∙ fields_limit g hosted name space fields t n r
+    (let e : space_number g space ≡ s = space_number_is g space s p in let b : s < length (named_spaces g) = (position-Some (λ (x : List ℕ × List (ℕ × ℕ)). bytes_eq x.0 space) (named_spaces g) s ([], []) p).0 in omega arith) l

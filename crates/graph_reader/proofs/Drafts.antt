@@ -1,22 +1,23 @@
 -- What no reason refuses: each word in its place, no event and no column twice, and the item itself.
-use Rattle.std.proofs.Common.{◌≡◌, ℕ, suc, ◌+◌, ◌<◌, ◌≤◌, Bool, true, false, not, ◌||◌, List, [], ◌∷◌, ◌++◌, length, drop, map, refl, sym, ◌∙◌, ap, arith}
-use Rattle.std.specs.Prelude.{Option, Some, None, bytes_eq, nat_eq, filter_map, zip, slice_index_or, nat_le}
+use Rattle.std.proofs.Common.{◌≡◌, ℕ, suc, ◌+◌, ◌<◌, ◌≤◌, Bool, true, false, ◌||◌, List, [], ◌∷◌, ◌++◌, length, drop, map, refl, sym, ◌∙◌, ap, arith}
+use Rattle.std.specs.Prelude.{Option, Some, None, bytes_eq, nat_eq, filter_map, zip, slice_index_or}
 use Rattle.std.specs.List.{list_any, list_all, AllByRecursion, cons_option}
-use Rattle.std.proofs.lemmas.Bool.{or_parts, or_from, and_parts, false_from_ne_true, eqb-false, not-true, leb-true}
+use Rattle.std.proofs.lemmas.Bool.{or_parts, or_from, and_parts, false_from_ne_true, eqb-false}
 use Rattle.std.proofs.lemmas.Option.{none-some}
 use Rattle.graph_terms.specs.declared.why.Why.{Why}
 use Rattle.graph_terms.specs.Graph.{GraphValue}
 use Rattle.graph_terms.specs.Spelling.{column_name}
 use Rattle.graph_terms.specs.Fits.{first_reason, repeats}
 use Rattle.graph_words.specs.Words.{pieces}
-use Rattle.graph_words.specs.Draft.{Place, NewName, SpaceName, LockName, BarrierName, UserName, PhaseName, AcquireName, EventName, Column, Fields, Value, Times, Weight, Shared, Count, Intervals, Placed, events_placed, is_own_word, Draft, number_in, column_number_of}
-use Rattle.graph_reader.specs.FirstFault.{misnamed, unknown, twice, unlike, misnumbered, misordered, event_word, column_word, item_fault, or_else, draft_tests, draft_fault, is_empty}
+use Rattle.graph_words.specs.Draft.{Place, NewName, SpaceName, LockName, BarrierName, UserName, PhaseName, AcquireName, EventName, CallName, Column, DataColumn, Fields, Value, Times, Weight, Shared, Count, Intervals, Placed, events_placed, is_own_word, Draft, number_in, column_number_of}
+use Rattle.graph_reader.specs.FirstFault.{event_word, column_word, item_fault, or_else, draft_tests, draft_fault}
+use Rattle.word_meanings.specs.WordFaults.{misnamed, unknown, twice, unlike, misnumbered, misordered}
+use Rattle.word_meanings.specs.Words.{is_word, IsWord}
 use Rattle.graph_words.proofs.Public.{each_fails, none_where_each_fails}
 use Rattle.basics.proofs.TestedLists.{same_bytes, each_from_none}
-use Rattle.graph_reader.proofs.GraphNames.{IsNamed}
-use Rattle.graph_reader.proofs.Places.{spell, IsFine, FitsPlace, place_reads, IsNumbered, IsBounded, place_spelled}
-use Rattle.graph_reader.specs.Words.{is_word, AtLeast, IsWord}
-use Rattle.graph_reader.specs.Laws.{WordsByTest}
+use Rattle.word_meanings.specs.Names.{IsNamed}
+use Rattle.word_meanings.specs.Places.{spell, IsFine, FitsPlace, IsNumbered, IsBounded}
+use Rattle.word_meanings.proofs.Public.{place_reads, place_spelled, word_by_test}
 
 abbrev pub EachFine : GraphValue → List Placed → Type 0
 EachFine g ps = AllByRecursion (λ (p : Placed). IsFine g p.0 p.1) ps
@@ -143,6 +144,8 @@ placed_columns g (UserName ∷ ps) (n ∷ ns) more f = placed_columns g ps ns mo
 placed_columns g (PhaseName ∷ ps) (n ∷ ns) more f = placed_columns g ps ns more f.1
 placed_columns g (AcquireName ∷ ps) (n ∷ ns) more f = placed_columns g ps ns more f.1
 placed_columns g (EventName ∷ ps) (n ∷ ns) more f = placed_columns g ps ns more f.1
+placed_columns g (CallName ∷ ps) (n ∷ ns) more f = placed_columns g ps ns more f.1
+placed_columns g (DataColumn ∷ ps) (n ∷ ns) more f = placed_columns g ps ns more f.1
 placed_columns g (Value ∷ ps) (n ∷ ns) more f = placed_columns g ps ns more f.1
 placed_columns g (Times ∷ ps) (n ∷ ns) more f = placed_columns g ps ns more f.1
 placed_columns g (Shared ∷ ps) (n ∷ ns) more f = placed_columns g ps ns more f.1
@@ -185,6 +188,8 @@ columns_read g h (UserName ∷ ps) (n ∷ ns) f = columns_read g h ps ns f.1
 columns_read g h (PhaseName ∷ ps) (n ∷ ns) f = columns_read g h ps ns f.1
 columns_read g h (AcquireName ∷ ps) (n ∷ ns) f = columns_read g h ps ns f.1
 columns_read g h (EventName ∷ ps) (n ∷ ns) f = columns_read g h ps ns f.1
+columns_read g h (CallName ∷ ps) (n ∷ ns) f = columns_read g h ps ns f.1
+columns_read g h (DataColumn ∷ ps) (n ∷ ns) f = columns_read g h ps ns f.1
 columns_read g h (Value ∷ ps) (n ∷ ns) f = columns_read g h ps ns f.1
 columns_read g h (Times ∷ ps) (n ∷ ns) f = columns_read g h ps ns f.1
 columns_read g h (Shared ∷ ps) (n ∷ ns) f = columns_read g h ps ns f.1
@@ -233,13 +238,6 @@ pub bounded_by : (g : GraphValue) (ps : List Place) (ws : List (List ℕ)) → A
 bounded_by g [] ws n o f = tt
 bounded_by g (p ∷ ps) [] n o f = tt
 bounded_by g (p ∷ ps) (w ∷ ws) n o f = let own = and_parts (is_own_word p w) (are_own_words (zip ps ws)) o in let s = place_spelled g p w n.0 own.0 f.0 in (s.bounded, bounded_by g ps ws n.1 own.1 f.1)
-
-word_bytes : (w : List ℕ) → list_all (nat_le 44) w ≡ true → AtLeast 44 w
-word_bytes [] h = tt
-word_bytes (b ∷ bs) h = let p = and_parts (nat_le 44 b) (list_all (nat_le 44) bs) h in (leb-true 44 b p.0, word_bytes bs p.1)
-
-pub word_by_test : WordsByTest
-word_by_test w h = let p = and_parts (not (is_empty w)) (list_all (nat_le 44) w) h in record { some = not-true (is_empty w) p.0; printed = word_bytes w p.1 }
 
 pub words_by_test : (ws : List (List ℕ)) → list_all is_word ws ≡ true → AllByRecursion IsWord ws
 words_by_test [] h = tt

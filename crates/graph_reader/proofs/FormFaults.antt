@@ -11,18 +11,21 @@ use Rattle.graph_terms.specs.Graph.{GraphValue}
 use Rattle.graph_terms.specs.Name.{is_name_in}
 use Rattle.graph_terms.specs.Fits.{repeats, first_reason, is_used, line_fault}
 use Rattle.graph_words.specs.Draft.{Place, NewName, EventName, Placed, Draft, form_of, on_events, events_placed, on_placed, words_in}
-use Rattle.graph_reader.specs.FirstFault.{misnamed, twice, unknown, unlike, misnumbered, misordered, event_word, column_word, draft_tests, draft_fault, or_else, item_fault}
+use Rattle.graph_reader.specs.FirstFault.{event_word, column_word, draft_tests, draft_fault, or_else, item_fault}
+use Rattle.word_meanings.specs.WordFaults.{misnamed, twice, unknown, unlike, misnumbered, misordered}
 use Rattle.graph_terms.specs.declared.table.Kind.{Kind}
 use Rattle.graph_terms.specs.declared.table.Place as table
 use Rattle.graph_terms.specs.declared.table.Place.TheVariants as places
 use Rattle.graph_terms.specs.Table.{kind_places}
-use Rattle.graph_reader.specs.Kinds.{kind_draft, kind_placed, form_placed, form_reason, form_repeats, column_words, kind_line, later_reason, AllTell}
+use Rattle.graph_reader.specs.Kinds.{kind_draft, kind_placed, form_placed, form_reason, form_repeats, column_words, kind_line, later_reason}
+use Rattle.word_meanings.specs.Telling.{AllTell}
+use Rattle.graph_reader.specs.declared.item.Item.TheVariants as items
 use Rattle.graph_reader.specs.Reading.{IsLineRead}
-use Rattle.graph_reader.specs.declared.faults.Faults.{Faults}
+use Rattle.word_meanings.specs.declared.faults.Faults.{Faults}
 use Rattle.basics.proofs.Choices.{or_true}
 use Rattle.basics.proofs.TestedLists.{any_map, any_right}
 use Rattle.graph_reader.proofs.Drafts.{event_words, placed_events, events_listed, events_no_columns}
-use Rattle.graph_reader.proofs.SeenWords.{or_again}
+use Rattle.std.proofs.Math.Bool.{or_assoc}
 use Rattle.graph_reader.proofs.VerbForms.{no_events}
 
 -- the places of a kind take no intervals
@@ -65,16 +68,16 @@ abbrev pub fails : (Place → List ℕ → Bool) → List Placed → Bool
 fails t ps = list_any (λ (p : Placed). t p.0 p.1) ps
 
 -- the tests of words of which the first is a new name
-reason_by : (g : GraphValue) (d : Draft) (name : List ℕ) (ps : List Placed) (e c : Bool) → d.placed ≡ (NewName, name) ∷ ps → is_name_in g.format name ≡ true → repeats bytes_eq (event_words ps) ≡ e →
+pub reason_by : (g : GraphValue) (d : Draft) (name : List ℕ) (ps : List Placed) (e c : Bool) → d.placed ≡ (NewName, name) ∷ ps → is_name_in g.format name ≡ true → repeats bytes_eq (event_words ps) ≡ e →
     repeats bytes_eq (column_words ps) ≡ c → fails misordered ps ≡ false →
     first_reason (draft_tests g d) ≡ first_reason ((fails (misnamed g.format) ps, why.Name) ∷ (is_used g name || (fails (twice g) ps || (e || c)), why.Twice) ∷ (fails (unknown g) ps, why.Unknown) ∷ (fails (unlike g) ps, why.Kind) ∷ (fails (misnumbered g.format) ps, why.Number) ∷ [])
 reason_by g d name ps e c placed n events columns ordered =
     ap (λ x. first_reason (draft_tests g (record { placed = x; item = d.item }))) placed
     ∙ six_to_five (not (is_name_in g.format name) || fails (misnamed g.format) ps) (fails (misnamed g.format) ps) _ (is_used g name || (fails (twice g) ps || (e || c))) (fails (unknown g) ps) (fails (unlike g) ps) (fails (misnumbered g.format) ps) (fails misordered ps)
     (ap (λ b. not b || fails (misnamed g.format) ps) n)
-    (or_again (is_used g name) (fails (twice g) ps) _ ∙ (ap (λ x. is_used g name || (fails (twice g) ps || (x || repeats bytes_eq (column_words ps)))) events ∙ ap (λ x. is_used g name || (fails (twice g) ps || (e || x))) columns)) ordered
+    (or_assoc (is_used g name) (fails (twice g) ps) _ ∙ (ap (λ x. is_used g name || (fails (twice g) ps || (x || repeats bytes_eq (column_words ps)))) events ∙ ap (λ x. is_used g name || (fails (twice g) ps || (e || x))) columns)) ordered
 
-used_first : (u x : Bool) (r : Option Why) → or_else (cond u (Some why.Twice) None) (cond (u || x) (Some why.Twice) r) ≡ cond (u || x) (Some why.Twice) r
+pub used_first : (u x : Bool) (r : Option Why) → or_else (cond u (Some why.Twice) None) (cond (u || x) (Some why.Twice) r) ≡ cond (u || x) (Some why.Twice) r
 used_first true x r = refl
 used_first false x r = refl
 
@@ -82,10 +85,10 @@ pub or_false : (b : Bool) → (b || false) ≡ b
 or_false true = refl
 or_false false = refl
 
-twice_by : (a u b : Bool) (r : Option Why) → a ≡ false → b ≡ true → cond a (Some why.Name) (cond (u || b) (Some why.Twice) r) ≡ Some why.Twice
+pub twice_by : (a u b : Bool) (r : Option Why) → a ≡ false → b ≡ true → cond a (Some why.Name) (cond (u || b) (Some why.Twice) r) ≡ Some why.Twice
 twice_by a u b r h k = ap (λ x. cond x (Some why.Name) (cond (u || b) (Some why.Twice) r)) h ∙ ap (λ x. cond x (Some why.Twice) r) (ap (λ x. u || x) k ∙ or_true u)
 
-left_by : (a u b : Bool) (r : Option Why) → a ≡ false → b ≡ false → cond a (Some why.Name) (cond (u || b) (Some why.Twice) r) ≡ cond u (Some why.Twice) r
+pub left_by : (a u b : Bool) (r : Option Why) → a ≡ false → b ≡ false → cond a (Some why.Name) (cond (u || b) (Some why.Twice) r) ≡ cond u (Some why.Twice) r
 left_by a u b r h k = ap (λ x. cond x (Some why.Name) (cond (u || b) (Some why.Twice) r)) h ∙ ap (λ x. cond x (Some why.Twice) r) (ap (λ x. u || x) k ∙ or_false u)
 
 module _ (g : GraphValue) (kind : Kind) (name : List ℕ) (ws : List (List ℕ)) where
@@ -119,7 +122,7 @@ module _ (g : GraphValue) (kind : Kind) (name : List ℕ) (ws : List (List ℕ))
   left_fault : is_name_in g.format name ≡ true → form_reason g kind name ws ≡ cond (is_used g name) (Some why.Twice) None → draft_fault g (kind_draft g kind name ws) ≡ line_fault g (kind_line g kind name ws)
   left_fault n h = ap (λ r. or_else r (line_fault g (kind_line g kind name ws))) (reason_is n ∙ h) ∙ used_first (is_used g name) _ _
 
-  pub read_as : (line : Line) → is_name_in g.format name ≡ true → form_reason g kind name ws ≡ cond (is_used g name) (Some why.Twice) None → line ≡ kind_line g kind name ws → IsLineRead g (kind_draft g kind name ws) (Ok line)
+  pub read_as : (line : Line) → is_name_in g.format name ≡ true → form_reason g kind name ws ≡ cond (is_used g name) (Some why.Twice) None → line ≡ kind_line g kind name ws → IsLineRead g (kind_draft g kind name ws) (Ok (items.Line line))
   read_as line n h e = (left_fault n h ∙ ap (line_fault g) (sym e), ap inr (sym e))
 
   module _ (f : Faults) (tell : AllTell g (form_placed g.format kind ws) f) where

@@ -1,10 +1,8 @@
 pub mod ExampleFaults
-pub mod WordLaws
-pub mod WordFacts
-pub mod GraphNames
-pub mod Places
 pub mod Drafts
 pub mod VerbForms
+pub mod CallForms
+pub mod CallFaults
 pub mod ReadBack
 pub mod Spelled
 pub mod LineSteps
@@ -14,13 +12,10 @@ pub mod Prefixes
 pub mod TextLines
 pub mod BareTexts
 pub mod ExampleReadings
-pub mod Owners
-pub mod ColumnWords
 pub mod FormFaults
 pub mod DeclFaults
 pub mod MergeFaults
 pub mod LineShapes
 pub mod ItemReads
-pub mod SeenWords
-pub mod PartLists
+pub mod ColumnLists
 pub mod Public

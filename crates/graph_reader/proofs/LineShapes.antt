@@ -1,5 +1,5 @@
 -- Words by their number.
-use Rattle.std.proofs.Common.{◌⊎◌, inl, inr, ◌≡◌, ℕ, ◌+◌, ◌<◌, ◌≤◌, Bool, true, false, ◌&&◌, ◌||◌, List, [], ◌∷◌, ◌++◌, length, length-append, drop, refl, sym, ◌∙◌, ap, subst, arith}
+use Rattle.std.proofs.Common.{◌⊎◌, inl, inr, ◌≡◌, ℕ, ◌+◌, ◌<◌, ◌≤◌, Bool, true, false, cond, ◌&&◌, ◌||◌, List, [], ◌∷◌, ◌++◌, length, length-append, drop, refl, sym, ◌∙◌, ap, subst, arith}
 use Rattle.std.specs.Prelude.{Option, Some, None, Result, Ok, Err, option_map, slice_index_or, codes, find, zip, bytes_eq, nat_le, ◌==◌}
 use Rattle.std.specs.List.{starts_with, list_any, list_all}
 use Rattle.std.specs.Option.{option_map_or}
@@ -13,7 +13,8 @@ use Rattle.graph_terms.specs.declared.verb.Line.{Line}
 use Rattle.graph_terms.specs.declared.verb.Verb.{Verb}
 use Rattle.graph_terms.specs.declared.why.Why.TheVariants as why
 use Rattle.graph_reader.specs.declared.item.ItemError.TheVariants as errors
-use Rattle.graph_reader.specs.FirstFault.{is_empty, words_fault, draft_fault}
+use Rattle.graph_reader.specs.FirstFault.{words_fault, draft_fault}
+use Rattle.word_meanings.specs.Words.{is_empty}
 use Rattle.graph_terms.specs.declared.verb.Verb.TheVariants.{Merge, MergeIgnore}
 use Rattle.graph_terms.specs.Graph.{GraphValue}
 use Rattle.graph_reader.specs.declared.item.ItemError.{ItemError}
@@ -21,12 +22,13 @@ use Rattle.graph_terms.specs.declared.table.Kind.{Kind}
 use Rattle.graph_terms.specs.declared.table.Kind.TheVariants as kinds
 use Rattle.graph_terms.specs.declared.table.TheConstants.{KINDS}
 use Rattle.graph_reader.specs.Kinds.{kind_draft}
-use Rattle.graph_reader.specs.Reading.{open_fault, IsDeclRead, IsDeclOf, IsLineOf, IsWordsError}
+use Rattle.graph_reader.specs.declared.item.Item.{Item}
+use Rattle.graph_reader.specs.Reading.{open_fault, IsDeclRead, IsDeclOf, IsLineOf, IsWordsError, IsWordsItem}
 use Rattle.graph_terms.specs.Format.{has_since}
 use Rattle.graph_terms.specs.Table.{kind_words}
-use Rattle.graph_words.specs.Draft.{Placed, Draft, draft, merge_with, decl_draft_after, form_of, form_draft, has_events, is_own_word, is_of_form, same_word, merge_draft, line_draft, decl_draft, space_draft, inst_draft, lock_draft, barrier_draft, space_with, inst_with, barrier_with, op_of}
+use Rattle.graph_words.specs.Draft.{Placed, Draft, draft, merge_with, decl_draft_after, form_of, form_draft, has_events, is_own_word, is_of_form, same_word, merge_draft, line_draft, decl_draft, space_draft, inst_draft, lock_draft, barrier_draft, space_with, columns_with, barrier_with, op_of, data_draft, call_draft}
 use Rattle.basics.proofs.TestedLists.{find_mapped}
-use Rattle.graph_reader.specs.Laws.{WordsFillPlaces, LineBySign, DeclarationBySign, EmptyByLength, ReservationWords, BarrierWords, InstanceWords, OperationsHaveTwoWords}
+use Rattle.graph_reader.specs.Laws.{WordsFillPlaces, LineBySign, DeclarationBySign, EmptyByLength, ReservationWords, BarrierWords, InstanceWords, DataWords, LineOfKind, LineOfCall, OperationsHaveTwoWords}
 
 abbrev at : List (List ℕ) → ℕ → List ℕ
 at ws i = slice_index_or ws i []
@@ -61,6 +63,30 @@ no_inst_shape g (a ∷ b ∷ c ∷ []) h = refl
 no_inst_shape g (a ∷ b ∷ c ∷ d ∷ []) h = absurd (h refl)
 no_inst_shape g (a ∷ b ∷ c ∷ d ∷ e ∷ es) h = refl
 
+pub data_shape : DataWords
+data_shape g [] h t = absurd (omega (arith, h))
+data_shape g (a ∷ []) h t = absurd (omega (arith, h))
+data_shape g (a ∷ b ∷ []) h t = absurd (omega (arith, h))
+data_shape g (a ∷ b ∷ c ∷ []) h t = absurd (omega (arith, h))
+data_shape g (a ∷ b ∷ c ∷ d ∷ []) h t = cond-true (has_since Three g.format) (Some (columns_with g true b c d)) None t
+data_shape g (a ∷ b ∷ c ∷ d ∷ e ∷ es) h t = absurd (omega (arith, h))
+
+pub no_data_shape : (g : GraphValue) (ws : List (List ℕ)) → (length ws ≡ 4 → ⊥) → data_draft g (drop 1 ws) ≡ None
+no_data_shape g [] h = refl
+no_data_shape g (a ∷ []) h = refl
+no_data_shape g (a ∷ b ∷ []) h = refl
+no_data_shape g (a ∷ b ∷ c ∷ []) h = refl
+no_data_shape g (a ∷ b ∷ c ∷ d ∷ []) h = absurd (h refl)
+no_data_shape g (a ∷ b ∷ c ∷ d ∷ e ∷ es) h = refl
+
+-- the format has no data
+pub no_data_format : (g : GraphValue) (ws : List (List ℕ)) → has_since Three g.format ≡ false → data_draft g ws ≡ None
+no_data_format g [] t = refl
+no_data_format g (a ∷ []) t = refl
+no_data_format g (a ∷ b ∷ []) t = refl
+no_data_format g (a ∷ b ∷ c ∷ []) t = cond-false (has_since Three g.format) (Some (columns_with g true a b c)) None t
+no_data_format g (a ∷ b ∷ c ∷ d ∷ ds) t = refl
+
 pub lock_shape : ReservationWords
 lock_shape g [] h = absurd (omega (arith, h))
 lock_shape g (a ∷ []) h = absurd (omega (arith, h))
@@ -91,23 +117,46 @@ no_barrier_shape g (a ∷ b ∷ c ∷ d ∷ []) h = refl
 no_barrier_shape g (a ∷ b ∷ c ∷ d ∷ e ∷ []) h = absurd (h refl)
 no_barrier_shape g (a ∷ b ∷ c ∷ d ∷ e ∷ f ∷ fs) h = refl
 
-pub inst_read : (g : GraphValue) (ws : List (List ℕ)) (a b c : List ℕ) (r : Result Decl ItemError) → length ws ≡ 4 → a ≡ at ws 1 → b ≡ at ws 2 → c ≡ at ws 3 → IsDeclRead g (inst_with g a b c) r → IsDeclOf g (inst_draft g (drop 1 ws)) r
+pub inst_read : (g : GraphValue) (ws : List (List ℕ)) (a b c : List ℕ) (r : Result Decl ItemError) → length ws ≡ 4 → a ≡ at ws 1 → b ≡ at ws 2 → c ≡ at ws 3 → IsDeclRead g (columns_with g false a b c) r → IsDeclOf g (inst_draft g (drop 1 ws)) r
 inst_read g ws a b c r l p q s h = subst (λ x. IsDeclOf g x r) (sym (inst_shape g ws l))
-    (subst (λ x. IsDeclRead g (inst_with g x (at ws 2) (at ws 3)) r) p (subst (λ x. IsDeclRead g (inst_with g a x (at ws 3)) r) q (subst (λ x. IsDeclRead g (inst_with g a b x) r) s h)))
+    (subst (λ x. IsDeclRead g (columns_with g false x (at ws 2) (at ws 3)) r) p (subst (λ x. IsDeclRead g (columns_with g false a x (at ws 3)) r) q (subst (λ x. IsDeclRead g (columns_with g false a b x) r) s h)))
 
 pub barrier_read : (g : GraphValue) (ws : List (List ℕ)) (a b c d : List ℕ) (op : Op) (r : Result Decl ItemError) → length ws ≡ 5 → a ≡ at ws 1 → b ≡ at ws 2 → c ≡ at ws 3 → d ≡ at ws 4 → op_of c ≡ Some op →
     IsDeclRead g (barrier_with g.format a b op d) r → IsDeclOf g (barrier_draft g (drop 1 ws)) r
 barrier_read g ws a b c d op r l p q s t o h = subst (λ x. IsDeclOf g x r) (sym (barrier_shape g ws l ∙ ap (option_map (λ x. barrier_with g.format (at ws 1) (at ws 2) x (at ws 4))) (ap op_of (sym s) ∙ o)))
     (subst (λ x. IsDeclRead g (barrier_with g.format x (at ws 2) op (at ws 4)) r) p (subst (λ x. IsDeclRead g (barrier_with g.format a x op (at ws 4)) r) q (subst (λ x. IsDeclRead g (barrier_with g.format a b op x) r) t h)))
 
+pub data_read : (g : GraphValue) (ws : List (List ℕ)) (a b c : List ℕ) (r : Result Decl ItemError) → length ws ≡ 4 → has_since Three g.format ≡ true → a ≡ at ws 1 → b ≡ at ws 2 → c ≡ at ws 3 → IsDeclRead g (columns_with g true a b c) r →
+    IsDeclOf g (data_draft g (drop 1 ws)) r
+data_read g ws a b c r l t p q s h = subst (λ x. IsDeclOf g x r) (sym (data_shape g ws l t))
+    (subst (λ x. IsDeclRead g (columns_with g true x (at ws 2) (at ws 3)) r) p (subst (λ x. IsDeclRead g (columns_with g true a x (at ws 3)) r) q (subst (λ x. IsDeclRead g (columns_with g true a b x) r) s h)))
+
+-- words that begin with none of the first three
+decl_later : (g : GraphValue) (w : List ℕ) (ws : List (List ℕ)) (k : List ℕ) → k ≡ w → bytes_eq k (codes "space") ≡ false → bytes_eq k (codes "inst") ≡ false → bytes_eq k (codes "lock") ≡ false →
+    decl_draft g (w ∷ ws) ≡ cond (bytes_eq w (codes "barrier")) (barrier_draft g ws) (cond (bytes_eq w (codes "data")) (data_draft g ws) None)
+decl_later g w ws k e a b c =
+    cond-false (bytes_eq w (codes "space")) (space_draft g ws) _ (ap (λ x. bytes_eq x (codes "space")) (sym e) ∙ a)
+    ∙ (cond-false (bytes_eq w (codes "inst")) (inst_draft g ws) _ (ap (λ x. bytes_eq x (codes "inst")) (sym e) ∙ b)
+    ∙ cond-false (bytes_eq w (codes "lock")) (lock_draft g ws) _ (ap (λ x. bytes_eq x (codes "lock")) (sym e) ∙ c))
+
 pub decl_barrier : (g : GraphValue) (ws : List (List ℕ)) (k : List ℕ) → k ≡ at ws 0 → bytes_eq k (codes "space") ≡ false → bytes_eq k (codes "inst") ≡ false → bytes_eq k (codes "lock") ≡ false → bytes_eq k (codes "barrier") ≡ true →
     decl_draft g ws ≡ barrier_draft g (drop 1 ws)
 decl_barrier g [] k e a b c d = absurd (true≢false (sym d ∙ ap (λ x. bytes_eq x (codes "barrier")) e))
-decl_barrier g (w ∷ ws) k e a b c d =
-    cond-false (bytes_eq w (codes "space")) (space_draft g ws) _ (ap (λ x. bytes_eq x (codes "space")) (sym e) ∙ a)
-    ∙ (cond-false (bytes_eq w (codes "inst")) (inst_draft g ws) _ (ap (λ x. bytes_eq x (codes "inst")) (sym e) ∙ b)
-    ∙ (cond-false (bytes_eq w (codes "lock")) (lock_draft g ws) _ (ap (λ x. bytes_eq x (codes "lock")) (sym e) ∙ c)
-    ∙ cond-true (bytes_eq w (codes "barrier")) (barrier_draft g ws) None (ap (λ x. bytes_eq x (codes "barrier")) (sym e) ∙ d)))
+decl_barrier g (w ∷ ws) k e a b c d = decl_later g w ws k e a b c ∙ cond-true (bytes_eq w (codes "barrier")) (barrier_draft g ws) _ (ap (λ x. bytes_eq x (codes "barrier")) (sym e) ∙ d)
+
+pub decl_data : (g : GraphValue) (ws : List (List ℕ)) (k : List ℕ) → k ≡ at ws 0 → bytes_eq k (codes "space") ≡ false → bytes_eq k (codes "inst") ≡ false → bytes_eq k (codes "lock") ≡ false → bytes_eq k (codes "barrier") ≡ false → bytes_eq k (codes "data") ≡ true →
+    decl_draft g ws ≡ data_draft g (drop 1 ws)
+decl_data g [] k e a b c d f = absurd (true≢false (sym f ∙ ap (λ x. bytes_eq x (codes "data")) e))
+decl_data g (w ∷ ws) k e a b c d f = decl_later g w ws k e a b c
+    ∙ (cond-false (bytes_eq w (codes "barrier")) (barrier_draft g ws) _ (ap (λ x. bytes_eq x (codes "barrier")) (sym e) ∙ d)
+    ∙ cond-true (bytes_eq w (codes "data")) (data_draft g ws) None (ap (λ x. bytes_eq x (codes "data")) (sym e) ∙ f))
+
+pub decl_none : (g : GraphValue) (ws : List (List ℕ)) (k : List ℕ) → k ≡ at ws 0 → bytes_eq k (codes "space") ≡ false → bytes_eq k (codes "inst") ≡ false → bytes_eq k (codes "lock") ≡ false → bytes_eq k (codes "barrier") ≡ false → bytes_eq k (codes "data") ≡ false →
+    decl_draft g ws ≡ None
+decl_none g [] k e a b c d f = refl
+decl_none g (w ∷ ws) k e a b c d f = decl_later g w ws k e a b c
+    ∙ (cond-false (bytes_eq w (codes "barrier")) (barrier_draft g ws) _ (ap (λ x. bytes_eq x (codes "barrier")) (sym e) ∙ d)
+    ∙ cond-false (bytes_eq w (codes "data")) (data_draft g ws) None (ap (λ x. bytes_eq x (codes "data")) (sym e) ∙ f))
 
 abbrev found_kind : Format → List Kind → List (List ℕ) → Option Kind
 found_kind fm ks ws = find (λ k. is_of_form fm ws (form_of k)) ks
@@ -120,13 +169,13 @@ none_there : (fm : Format) (ks : List Kind) → found_kind fm ks [] ≡ None
 none_there fm [] = refl
 none_there fm (k ∷ ks) = cond-false (is_of_form fm [] (form_of k)) (Some k) (found_kind fm ks []) (no_words fm k) ∙ none_there fm ks
 
-pub line_kind : (g : GraphValue) (name : List ℕ) (ws : List (List ℕ)) (v : List ℕ) (o : Option Kind) → v ≡ at ws 0 → bytes_eq v (codes "merge") ≡ false → bytes_eq v (codes "mergei") ≡ false → found_kind g.format KINDS ws ≡ o →
-    line_draft g name ws ≡ option_map (λ k. kind_draft g k name (drop (length (form_of k).words) ws)) o
-line_kind g name [] v o e a b h = sym (ap (option_map (λ k. kind_draft g k name (drop (length (form_of k).words) []))) (sym h ∙ none_there g.format KINDS))
-line_kind g name (w ∷ ws) v o e a b h =
+pub line_kind : LineOfKind
+line_kind g name [] v o e a b c h = sym (ap (option_map (λ k. kind_draft g k name (drop (length (form_of k).words) []))) (sym h ∙ none_there g.format KINDS))
+line_kind g name (w ∷ ws) v o e a b c h =
     cond-false (bytes_eq w (codes "merge")) (merge_draft g name Merge ws) _ (ap (λ x. bytes_eq x (codes "merge")) (sym e) ∙ a)
     ∙ (cond-false (bytes_eq w (codes "mergei")) (merge_draft g name MergeIgnore ws) _ (ap (λ x. bytes_eq x (codes "mergei")) (sym e) ∙ b)
-    ∙ (ap (option_map (λ f. form_draft g name (drop (length f.words) (w ∷ ws)) f)) (find_mapped (is_of_form g.format (w ∷ ws)) form_of KINDS ∙ ap (option_map form_of) h) ∙ option_twice o))
+    ∙ (cond-false (bytes_eq w (codes "call")) (call_draft g name ws) _ (ap (λ x. bytes_eq x (codes "call")) (sym e) ∙ c)
+    ∙ (ap (option_map (λ f. form_draft g name (drop (length f.words) (w ∷ ws)) f)) (find_mapped (is_of_form g.format (w ∷ ws)) form_of KINDS ∙ ap (option_map form_of) h) ∙ option_twice o)))
   where
     option_twice : (o : Option Kind) → option_map (λ f. form_draft g name (drop (length f.words) (w ∷ ws)) f) (option_map form_of o) ≡ option_map (λ k. kind_draft g k name (drop (length (form_of k).words) (w ∷ ws))) o
     option_twice None = refl
@@ -165,6 +214,19 @@ ignoring_line g name [] v e a b = absurd (true≢false (sym b ∙ ap (λ x. byte
 ignoring_line g name (w ∷ ws) v e a b =
     cond-false (bytes_eq w (codes "merge")) (merge_draft g name Merge ws) _ (ap (λ x. bytes_eq x (codes "merge")) (sym e) ∙ a)
     ∙ cond-true (bytes_eq w (codes "mergei")) (merge_draft g name MergeIgnore ws) _ (ap (λ x. bytes_eq x (codes "mergei")) (sym e) ∙ b)
+
+-- a line of a call
+pub line_call : LineOfCall
+line_call g name [] v e a b c = absurd (true≢false (sym c ∙ ap (λ x. bytes_eq x (codes "call")) e))
+line_call g name (w ∷ ws) v e a b c =
+    cond-false (bytes_eq w (codes "merge")) (merge_draft g name Merge ws) _ (ap (λ x. bytes_eq x (codes "merge")) (sym e) ∙ a)
+    ∙ (cond-false (bytes_eq w (codes "mergei")) (merge_draft g name MergeIgnore ws) _ (ap (λ x. bytes_eq x (codes "mergei")) (sym e) ∙ b)
+    ∙ cond-true (bytes_eq w (codes "call")) (call_draft g name ws) _ (ap (λ x. bytes_eq x (codes "call")) (sym e) ∙ c))
+
+-- words that begin with a word that is not empty are some
+pub word_there : (ws : List (List ℕ)) (v w : List ℕ) → v ≡ at ws 0 → bytes_eq v w ≡ true → bytes_eq [] w ≡ false → 1 ≤ length ws
+word_there [] v w e h n = absurd (true≢false (sym h ∙ (ap (λ x. bytes_eq x w) e ∙ n)))
+word_there (x ∷ ws) v w e h n = omega arith
 
 pub merge_shape : (g : GraphValue) (name : List ℕ) (verb : List ℕ → Verb) (ws : List (List ℕ)) → 2 ≤ length ws → merge_draft g name verb (drop 1 ws) ≡ Some (merge_with g name verb (drop 1 ws))
 merge_shape g name verb [] h = absurd (omega arith)
@@ -224,11 +286,7 @@ decl_read g ws (Some d) (Ok x) f e h = (filled g ws f ∙ (ap (λ o. option_map_
 decl_read g ws (Some d) (Err (errors.Refused w)) f e h = filled g ws f ∙ (ap (λ o. option_map_or (draft_fault g) o (Some why.Syntax)) e ∙ h)
 decl_read g ws (Some d) (Err errors.NoMemory) f e h = tt
 
-abbrev pub line_item : Result Line ItemError → Result (Decl ⊎ Line) ItemError
-line_item (Ok l) = Ok (inr l)
-line_item (Err e) = Err e
-
-pub line_read : (g : GraphValue) (ws : List (List ℕ)) (o : Option Draft) (r : Result Line ItemError) → list_any is_empty ws ≡ false → draft g ws ≡ o → IsLineOf g o r → IsItemRead g ws (line_item r)
+pub line_read : (g : GraphValue) (ws : List (List ℕ)) (o : Option Draft) (r : Result Item ItemError) → list_any is_empty ws ≡ false → draft g ws ≡ o → IsLineOf g o r → IsWordsItem g ws r
 line_read g ws None (Ok x) f e h = absurd h
 line_read g ws None (Err (errors.Refused w)) f e h = syntax_fault g ws f e ∙ ap Some (sym h)
 line_read g ws None (Err errors.NoMemory) f e h = tt

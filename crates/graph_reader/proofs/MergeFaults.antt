@@ -1,8 +1,8 @@
 -- What refuses the words of a merge.
-use Rattle.std.proofs.Common.{◌≡◌, ℕ, Bool, true, false, cond, not, ◌||◌, List, [], ◌∷◌, map, eq-eqb, eqb-true, true≢false, refl, sym, ◌∙◌, ap}
+use Rattle.std.proofs.Common.{◌≡◌, ℕ, Bool, true, false, cond, not, ◌||◌, List, [], ◌∷◌, map, eq-eqb, eqb-true, refl, sym, ◌∙◌, ap}
 use Rattle.std.proofs.lemmas.Bool.{and_parts, and_from}
 use Rattle.std.specs.Cmp.Derive.{one_truth}
-use Rattle.std.specs.Prelude.{Option, Some, None, Err, is_some, nat_eq, bytes_eq}
+use Rattle.std.specs.Prelude.{Option, Some, None, Err, nat_eq, bytes_eq}
 use Rattle.std.specs.List.{list_any, list_all}
 use Rattle.graph_terms.specs.declared.verb.Verb.{Verb}
 use Rattle.graph_terms.specs.declared.why.Why.{Why}
@@ -12,14 +12,14 @@ use Rattle.graph_terms.specs.Spelling.{line_name}
 use Rattle.graph_terms.specs.Name.{is_name_in}
 use Rattle.graph_terms.specs.Fits.{IsGraph, first_reason, repeats, is_used, line_fault}
 use Rattle.graph_words.specs.Draft.{Place, EventName, Placed, events_placed, merge_with, line_number}
-use Rattle.graph_reader.specs.FirstFault.{misnamed, twice, unknown, unlike, misnumbered, misordered, is_line_name, draft_tests, draft_fault, or_else, item_fault}
+use Rattle.graph_reader.specs.FirstFault.{draft_tests, draft_fault, or_else, item_fault}
+use Rattle.word_meanings.specs.WordFaults.{misnamed, twice, unknown, unlike, misnumbered, misordered, is_line_name}
 use Rattle.graph_reader.specs.Merges.{merge_verb, merge_line, merge_reason, all_lines, IsMergeError}
 use Rattle.graph_reader.specs.Reading.{IsLineRead}
 use Rattle.graph_reader.specs.declared.item.ItemError.{ItemError}
 use Rattle.graph_reader.specs.declared.item.ItemError.TheVariants as errors
 use Rattle.basics.proofs.TestedLists.{same_bytes, bytes_same, any_map}
-use Rattle.graph_reader.proofs.Owners.{owner, used_is, unused_misnamed}
-use Rattle.graph_reader.proofs.Places.{line_as}
+use Rattle.word_meanings.proofs.Public.{line_as, line_used, line_named}
 use Rattle.basics.proofs.Choices.{or_true}
 use Rattle.graph_reader.proofs.Drafts.{events_listed, events_no_columns}
 use Rattle.graph_reader.proofs.FormFaults.{first_fails, or_false, none_of, some_fail}
@@ -27,17 +27,6 @@ use Rattle.graph_reader.proofs.FormFaults.{first_fails, or_false, none_of, some_
 all_also : (s t : List ℕ → Bool) → ((w : List ℕ) → s w ≡ true → t w ≡ true) → (es : List (List ℕ)) → list_all s es ≡ true → list_all t es ≡ true
 all_also s t k [] h = refl
 all_also s t k (e ∷ es) h = let p = and_parts (s e) (list_all s es) h in and_from (t e) (list_all t es) (k e p.0) (all_also s t k es p.1)
-
--- words that name lines are in use, and spelled as names
-line_used : (g : GraphValue) (w : List ℕ) → is_line_name g w ≡ true → is_used g w ≡ true
-line_used g w h = used_is g w ∙ (ap (λ b. is_some (owner g.decls w) || b) h ∙ or_true (is_some (owner g.decls w)))
-
-line_named_by : (g : GraphValue) (w : List ℕ) (b : Bool) → IsGraph g → is_line_name g w ≡ true → is_name_in g.format w ≡ b → b ≡ true
-line_named_by g w true n h e = refl
-line_named_by g w false n h e = absurd (true≢false (sym (line_used g w h) ∙ unused_misnamed g w n e))
-
-line_named : (g : GraphValue) (w : List ℕ) → IsGraph g → is_line_name g w ≡ true → is_name_in g.format w ≡ true
-line_named g w n h = line_named_by g w (is_name_in g.format w) n h refl
 
 -- words that name lines are the same where their numbers are
 number_same : (g : GraphValue) (a b : List ℕ) → is_line_name g a ≡ true → is_line_name g b ≡ true → nat_eq (line_number g a) (line_number g b) ≡ bytes_eq a b

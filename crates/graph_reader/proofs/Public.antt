@@ -1,19 +1,9 @@
 -- The laws that the proofs of other crates cite, as specs/ states them.
-use Rattle.graph_reader.specs.Laws.{NamesAreWords, PiecesJoinAgain, WordsByTest, LineAndRest, NewlineIsFound, LineUpToNewline, RestBehindNewline, FewerBytesFollow, WordsHaveNoNewline, WordsCutAgain, SpelledLine, TextsAreBare, WordsFillPlaces, LineBySign, DeclarationBySign, EmptyByLength, ReservationWords, BarrierWords, InstanceWords, OperationsHaveTwoWords}
-use Rattle.graph_reader.proofs.WordFacts as word_facts
+use Rattle.graph_reader.specs.Laws.{LineAndRest, NewlineIsFound, LineUpToNewline, RestBehindNewline, FewerBytesFollow, SpelledLine, TextsAreBare, WordsFillPlaces, LineBySign, DeclarationBySign, EmptyByLength, ReservationWords, BarrierWords, InstanceWords, DataWords, NoAccessInFew, LineOfKind, LineOfCall, OperationsHaveTwoWords}
 use Rattle.graph_reader.proofs.BareTexts as bare_texts
-use Rattle.graph_reader.proofs.Drafts as drafts
+use Rattle.graph_reader.proofs.CallFaults as call_faults
 use Rattle.graph_reader.proofs.LineSteps as line_steps
 use Rattle.graph_reader.proofs.LineShapes as line_shapes
-
-pub name_is_word : NamesAreWords
-name_is_word = word_facts.name_is_word
-
-pub joined_pieces : PiecesJoinAgain
-joined_pieces = word_facts.joined_pieces
-
-pub word_by_test : WordsByTest
-word_by_test = drafts.word_by_test
 
 pub whole_line : LineAndRest
 whole_line = line_steps.whole_line
@@ -29,12 +19,6 @@ cut_after = line_steps.cut_after
 
 pub fewer_bytes : FewerBytesFollow
 fewer_bytes = line_steps.fewer_bytes
-
-pub words_line : WordsHaveNoNewline
-words_line = line_steps.words_line
-
-pub words_pieces : WordsCutAgain
-words_pieces = line_steps.words_pieces
 
 pub spelled_rest : SpelledLine
 spelled_rest = line_steps.spelled_rest
@@ -65,3 +49,15 @@ inst_shape = line_shapes.inst_shape
 
 pub operation_long : OperationsHaveTwoWords
 operation_long = line_shapes.operation_long
+
+pub data_shape : DataWords
+data_shape = line_shapes.data_shape
+
+pub few_words : NoAccessInFew
+few_words = call_faults.few_words
+
+pub line_kind : LineOfKind
+line_kind = line_shapes.line_kind
+
+pub line_call : LineOfCall
+line_call = line_shapes.line_call

@@ -1,9 +1,9 @@
 -- An item that fits is read back from its words, and no reason refuses them.
-use Rattle.std.proofs.Common.{◌≡◌, ℕ, ◌<◌, ◌≤◌, true, false, not, ◌⊎◌, inl, inr, List, [], ◌∷◌, ◌++◌, length, map, ◌&&◌, refl, sym, ◌∙◌, ap, subst, append-nil, arith}
-use Rattle.std.specs.Prelude.{Option, Some, None, is_some, codes, bytes_eq, nat_eq, nat_lt, zip, decimal, unwrap_or, option_map}
+use Rattle.std.proofs.Common.{◌≡◌, ℕ, ◌<◌, ◌≤◌, Bool, true, false, not, ◌⊎◌, inl, inr, List, [], ◌∷◌, ◌++◌, length, map, ◌&&◌, refl, sym, ◌∙◌, ap, subst, append-nil, arith}
+use Rattle.std.specs.Prelude.{Option, Some, None, is_some, codes, bytes_eq, nat_eq, nat_lt, zip, flat_map, decimal, unwrap_or, option_map}
 use Rattle.std.specs.Option.{option_map_or}
 use Rattle.std.specs.List.{list_any, list_all, AllByRecursion}
-use Rattle.std.proofs.lemmas.Bool.{true≢false, or_parts, and_parts, false_from_ne_true, not_from_true, and_from, cond-false, ltb-false, leb-false, lt-ltb}
+use Rattle.std.proofs.lemmas.Bool.{true≢false, or_parts, and_parts, false_from_ne_true, not_from_true, not-false, and_from, cond-true, cond-false, ltb-false, leb-false, lt-ltb}
 use Rattle.std.proofs.lemmas.List.Elements.{filter_map-append}
 use Rattle.index_spaces.specs.declared.Op.{Op}
 use Rattle.index_spaces.specs.declared.Op.TheVariants as op
@@ -13,25 +13,30 @@ use Rattle.graph_terms.specs.declared.decl.Decl.{Decl}
 use Rattle.graph_terms.specs.declared.decl.Decl.TheVariants as decl
 use Rattle.graph_terms.specs.declared.verb.Line.{Line}
 use Rattle.graph_terms.specs.declared.verb.Verb.{Verb}
-use Rattle.graph_terms.specs.declared.verb.Verb.TheVariants.{Merge, MergeIgnore}
+use Rattle.graph_terms.specs.declared.verb.Verb.TheVariants.{Merge, MergeIgnore, Call}
+use Rattle.graph_terms.specs.declared.verb.Access.{Access}
+use Rattle.graph_terms.specs.declared.call.CallParts.{CallParts}
+use Rattle.graph_terms.specs.Format.{has_since}
 use Rattle.graph_terms.specs.declared.why.Why.TheVariants.{Syntax}
 use Rattle.graph_terms.specs.Limits.{limits}
 use Rattle.graph_terms.specs.Name.{is_name_in}
 use Rattle.graph_terms.specs.Graph.{GraphValue, named_spaces}
-use Rattle.graph_terms.specs.Spelling.{space_name, line_name, column_name, op_word, interval_word, comma_word, decl_words, verb_words, on_words, line_words}
+use Rattle.graph_terms.specs.Spelling.{space_name, line_name, column_name, access_words, op_word, interval_word, comma_word, decl_words, verb_words, on_words, line_words}
 use Rattle.graph_terms.specs.Fits.{repeats, is_used, takes_no_on, on_unlike, decl_fault, line_fault, IsDecl, is_decl_named, IsLine, IsGraph}
 use Rattle.graph_words.specs.Words.{pieces, intervals_of, ascend_from, is_fields}
-use Rattle.graph_words.specs.Draft.{number_in_place, NewName, SpaceName, Fields, Value, Count, Intervals, Placed, Draft, Form, number_in, same_word, on_events, events_placed, form_draft, merge_draft, line_number, space_number, column_number_of, op_of, barrier_with, decl_draft, decl_draft_after, draft}
-use Rattle.graph_reader.specs.FirstFault.{event_word, column_word, item_fault, draft_fault, words_fault, is_empty}
+use Rattle.graph_words.specs.Draft.{EventName, number_in_place, NewName, SpaceName, Fields, Value, Count, Intervals, Placed, Draft, Form, number_in, same_word, on_events, events_placed, form_draft, merge_draft, line_number, space_number, column_number_of, op_of, barrier_with, columns_decl, columns_with, call_with, access_spelled, values_placed, accesses_placed, decl_draft, decl_draft_after, draft}
+use Rattle.graph_words.specs.Calls.{CallWords}
+use Rattle.graph_reader.specs.FirstFault.{event_word, column_word, item_fault, draft_fault, words_fault}
+use Rattle.word_meanings.specs.Words.{is_empty, IsWord}
 use Rattle.basics.proofs.TestedLists.{same_bytes, none_from_each, each_append, each_weaker}
-use Rattle.graph_reader.proofs.WordFacts.{name_is_word, intervals_of-word, intervals_is_word, intervals_bounded, ascends, field_pieces, names_each, joined_is_word}
-use Rattle.graph_reader.specs.Words.{IsWord}
-use Rattle.graph_reader.proofs.GraphNames.{IsNamed, is_named}
-use Rattle.graph_reader.proofs.Places.{IsFine, place_reads, event_word_at, event_reads}
-use Rattle.graph_reader.proofs.Drafts.{EachFine, event_words, column_words, IsFineDraft, no_draft_fault, IsNoEvent, spell_list, FitPlaces, placed_fine, placed_numbers, placed_words, columns_in, placed_events, placed_columns, events_listed, events_no_columns, names_repeat, columns_read, word_by_test}
+use Rattle.word_meanings.proofs.Public.{name_is_word, intervals_of-word, intervals_is_word, intervals_bounded, ascends, field_pieces, names_each, joined_is_word, is_named, place_reads, word_by_test}
+use Rattle.word_meanings.specs.Names.{IsNamed}
+use Rattle.word_meanings.specs.Places.{IsFine}
+use Rattle.graph_reader.proofs.Drafts.{EachFine, event_words, column_words, IsFineDraft, no_draft_fault, IsNoEvent, spell_list, FitPlaces, placed_fine, placed_numbers, placed_words, columns_in, placed_events, placed_columns, events_listed, events_no_columns, names_repeat, columns_read}
 use Rattle.graph_words.proofs.Public.{known_line_of, known_decl_of}
 use Rattle.graph_words.specs.Known.{IsKnownLine, IsKnownDecl}
-use Rattle.graph_reader.proofs.VerbForms.{IsFormed, formed}
+use Rattle.graph_reader.proofs.VerbForms.{IsFormed, formed, each_value}
+use Rattle.graph_reader.proofs.CallForms.{written_parts, call_read, values_back, accesses_back, values_fine, accesses_fine, values_are_words, accesses_are_words, values_no_events, accesses_no_events, format_three}
 
 -- an item of a graph: a declaration or a line
 abbrev pub Item : Type 0
@@ -83,6 +88,9 @@ new_name g name h u = record { named = not_from_true (is_name_in g.format name) 
 abbrev make_line : List ℕ → Verb → List ℕ → Line
 make_line name verb on = record { name = name; verb = verb; on = on }
 
+abbrev make_call : List ℕ → List ℕ → List Access → Verb
+make_call w vs xs = Call (record { word = w; values = vs; accesses = xs })
+
 abbrev line_item : Line → Item
 line_item l = inr l
 
@@ -91,11 +99,11 @@ placed_on g on = events_placed (map (line_name g) on)
 
 events_fine : (g : GraphValue) → IsNamed g → (es : List ℕ) → AllByRecursion (λ i. i < length g.lines) es → EachFine g (placed_on g es)
 events_fine g n [] b = tt
-events_fine g n (e ∷ es) b = ((event_reads g e (line_name g e) (event_word_at g n e b.0)).fine, events_fine g n es b.1)
+events_fine g n (e ∷ es) b = ((place_reads g n EventName e b.0).fine, events_fine g n es b.1)
 
 events_read : (g : GraphValue) → IsNamed g → (es : List ℕ) → AllByRecursion (λ i. i < length g.lines) es → AllByRecursion (λ e. line_number g (line_name g e) ≡ e) es
 events_read g n [] b = tt
-events_read g n (e ∷ es) b = ((event_word_at g n e b.0).number_is, events_read g n es b.1)
+events_read g n (e ∷ es) b = ((place_reads g n EventName e b.0).number_is, events_read g n es b.1)
 
 events_numbers : (g : GraphValue) (es : List ℕ) → AllByRecursion (λ e. line_number g (line_name g e) ≡ e) es → map (line_number g) (map (line_name g) es) ≡ es
 events_numbers g [] b = refl
@@ -103,7 +111,7 @@ events_numbers g (e ∷ es) b = ap (λ x. x ∷ map (line_number g) (map (line_n
 
 events_words : (g : GraphValue) → IsNamed g → (es : List ℕ) → AllByRecursion (λ i. i < length g.lines) es → AllByRecursion IsWord (map (line_name g) es)
 events_words g n [] b = tt
-events_words g n (e ∷ es) b = ((event_reads g e (line_name g e) (event_word_at g n e b.0)).word, events_words g n es b.1)
+events_words g n (e ∷ es) b = ((place_reads g n EventName e b.0).word, events_words g n es b.1)
 
 on_words_are : (g : GraphValue) → IsNamed g → (on : List ℕ) → AllByRecursion (λ i. i < length g.lines) on → AllByRecursion IsWord (on_words g on)
 on_words_are g n [] b = tt
@@ -202,9 +210,60 @@ mergei_reads g n name es [] is fits k none =
     (name_is_word g.format name is, (word_by_test (codes "=") refl, (word_by_test (codes "mergei") refl, each_append IsWord (map (line_name g) es) [] (events_words g n es k.verb.events) tt)))
     (omega arith)
 
+-- calls
+call_names : (fm : Format) (w : List ℕ) → has_since Three fm ≡ true → is_name_in Three w ≡ true → is_name_in fm w ≡ true
+call_names fm w h k = ap (λ f. is_name_in f w) (format_three fm h) ∙ k
+
+call_reads : (g : GraphValue) → IsNamed g → (name : List ℕ) (c : CallParts) (on : List ℕ) → is_name_in g.format name ≡ true → line_fault g (make_line name (Call c) on) ≡ None → IsKnownLine g (make_line name (Call c) on) → ReadsBack g (inr (make_line name (Call c) on))
+call_reads g n name c on is fits k =
+    let values = each_value c.values k.verb.values in
+    let three : has_since Three g.format ≡ true = not-false (has_since Three g.format) k.verb.there in
+    let own : is_name_in g.format c.word ≡ true = call_names g.format c.word three k.verb.called in
+    let parts : CallWords = written_parts g c.word c.values c.accesses on in
+    let d : Draft = call_with g name parts in
+    let read : draft g (item_words g (inr (make_line name (Call c) on))) ≡ Some d =
+    cond-true (has_since Three g.format) _ None three ∙ ap (option_map (call_with g name)) (call_read g c.word c.values c.accesses on values k.verb.counted) in
+    let same : d.item ≡ line_item (make_line name (Call c) on) =
+    ap (λ vs. line_item (make_line name (make_call c.word vs (map (access_spelled g) parts.accesses)) (map (line_number g) parts.events))) (values_back c.values values)
+    ∙ (ap (λ xs. line_item (make_line name (make_call c.word c.values xs) (map (line_number g) parts.events))) (accesses_back g n c.accesses k.verb.data_accesses)
+    ∙ ap (λ es. line_item (make_line name (Call c) es)) (events_numbers g on (events_read g n on k.on_below))) in
+    let behind : List Placed = accesses_placed parts.accesses ++ placed_on g on in
+    let v = values_no_events parts.values behind in
+    let a = accesses_no_events parts.accesses (placed_on g on) in
+    let fine : EachFine g d.placed = (
+      new_name g name is k.new,
+      (
+        record { named = not_from_true (is_name_in g.format c.word) own; once = refl; known = refl; alike = refl; numbered = refl; ordered = refl },
+        each_append (λ (p : Placed). IsFine g p.0 p.1) (values_placed parts.values) behind (values_fine g n c.values values)
+            (each_append (λ (p : Placed). IsFine g p.0 p.1) (accesses_placed parts.accesses) (placed_on g on) (accesses_fine g n c.accesses k.verb.data_accesses) (events_fine g n on k.on_below)),
+      ),
+    ) in
+    back_from g (inr (make_line name (Call c) on)) d read same
+    (record {
+      each = fine;
+      events = ap (repeats bytes_eq) (v.0 ∙ (a.0 ∙ events_listed (map (line_name g) on))) ∙ names_repeat (line_name g) (line_number g) on (events_read g n on k.on_below) k.on_once;
+      columns = ap (repeats bytes_eq) (v.1 ∙ (a.1 ∙ events_no_columns (map (line_name g) on)));
+      item = ap (item_fault g) same ∙ fits;
+    }) (
+      name_is_word g.format name is,
+      (
+        word_by_test (codes "=") refl,
+        (
+          word_by_test (codes "call") refl,
+          (
+            name_is_word g.format c.word own,
+            each_append IsWord (map decimal c.values ++ flat_map (access_words g) c.accesses) (on_words g on)
+                (each_append IsWord (map decimal c.values) (flat_map (access_words g) c.accesses) (values_are_words g n c.values values) (accesses_are_words g n c.accesses k.verb.data_accesses)) (on_words_are g n on k.on_below),
+          ),
+        ),
+      ),
+    )
+    (omega arith)
+
 line_reads_by : (g : GraphValue) → IsNamed g → (name : List ℕ) (v : Verb) (on : List ℕ) → is_name_in g.format name ≡ true → line_fault g (make_line name v on) ≡ None → IsKnownLine g (make_line name v on) → ReadsBack g (inr (make_line name v on))
 line_reads_by g n name (Merge es) on is fits k = merge_reads g n name es on is fits k (no_on g (Merge es) on refl k.takes_on)
 line_reads_by g n name (MergeIgnore es) on is fits k = mergei_reads g n name es on is fits k (no_on g (MergeIgnore es) on refl k.takes_on)
+line_reads_by g n name (Call c) on is fits k = call_reads g n name c on is fits k
 line_reads_by g n name v on is fits k = line_by_form g n (make_line name v on) is fits k (formed g v _ refl k.verb)
 
 pub line_reads : (g : GraphValue) → IsNamed g → (l : Line) → IsItem g (inr l) → line_fault g l ≡ None → ReadsBack g (inr l)
@@ -255,25 +314,50 @@ space_back g name s is fits k =
     (word_by_test (codes "space") refl, (name_is_word g.format name is.2, (intervals_is_word s is.0.1.0 (intervals_bounded 0 s is.0.1.1), tt)))
     (omega arith)
 
-inst_back : (g : GraphValue) → IsNamed g → (name : List ℕ) (s : ℕ) (fields : List (List ℕ)) → IsItem g (inl (decl.Inst name s fields)) → decl_fault g (decl.Inst name s fields) ≡ None → IsKnownDecl g (decl.Inst name s fields) → ReadsBack g (inl (decl.Inst name s fields))
-inst_back g n name s fields is fits k =
-    let some : 1 ≤ length fields = ltb-false (length fields) 1 k.counted in
-    let named = and_parts (is_name_in g.format name) (list_all (is_name_in g.format) fields) is.2 in
-    let read : pieces 44 (comma_word fields) ≡ fields = field_pieces g.format fields some named.1 in
-    let r = place_reads g n SpaceName s (leb-false (length (named_spaces g)) s k.known) in
+-- an instance, or data of which the host keeps the memory
+abbrev pub first_word : Bool → List ℕ
+first_word false = codes "inst"
+first_word true = codes "data"
+
+-- what is known of the columns that a declaration gives
+record AreColumns (g : GraphValue) (hosted : Bool) (name : List ℕ) (s : ℕ) (fields : List (List ℕ)) : Type 0 where
+  known : s < length (named_spaces g)
+  some : 1 ≤ length fields
+  named : is_name_in g.format name ≡ true
+  spelled : list_all (is_name_in g.format) fields ≡ true
+  once : repeats bytes_eq fields ≡ false
+  new : is_used g name ≡ false
+  first : g.lines ≡ []
+  fits : decl_fault g (columns_decl hosted name s fields) ≡ None
+  drafts : (space fields : List ℕ) → draft g (first_word hosted ∷ name ∷ space ∷ fields ∷ []) ≡ Some (columns_with g hosted name space fields)
+
+pub columns_words : (g : GraphValue) (hosted : Bool) (name : List ℕ) (s : ℕ) (fields : List (List ℕ)) → decl_words g (columns_decl hosted name s fields) ≡ first_word hosted ∷ name ∷ space_name g s ∷ comma_word fields ∷ []
+columns_words g false name s fields = refl
+columns_words g true name s fields = refl
+
+first_is_word : (hosted : Bool) → IsWord (first_word hosted)
+first_is_word false = word_by_test (codes "inst") refl
+first_is_word true = word_by_test (codes "data") refl
+
+columns_back : (g : GraphValue) → IsNamed g → (hosted : Bool) (name : List ℕ) (s : ℕ) (fields : List (List ℕ)) → AreColumns g hosted name s fields → ReadsBack g (inl (columns_decl hosted name s fields))
+columns_back g n hosted name s fields k =
+    let read : pieces 44 (comma_word fields) ≡ fields = field_pieces g.format fields k.some k.spelled in
+    let r = place_reads g n SpaceName s k.known in
     let placed : List Placed = (NewName, name) ∷ (SpaceName, space_name g s) ∷ (Fields, comma_word fields) ∷ [] in
-    let same : decl_item (decl.Inst name (space_number g (space_name g s)) (pieces 44 (comma_word fields))) ≡ decl_item (decl.Inst name s fields) =
-    ap (λ m. decl_item (decl.Inst name m (pieces 44 (comma_word fields)))) r.number_is ∙ ap (λ fs. decl_item (decl.Inst name s fs)) read in
-    back_from g (inl (decl.Inst name s fields)) (record { placed = placed; item = inl (decl.Inst name (space_number g (space_name g s)) (pieces 44 (comma_word fields))) })
-    (decl_drafted g (codes "inst") name (space_name g s ∷ comma_word fields ∷ []) named.0 is.1) same
+    let same : decl_item (columns_decl hosted name (space_number g (space_name g s)) (pieces 44 (comma_word fields))) ≡ decl_item (columns_decl hosted name s fields) =
+    ap (λ m. decl_item (columns_decl hosted name m (pieces 44 (comma_word fields)))) r.number_is ∙ ap (λ fs. decl_item (columns_decl hosted name s fs)) read in
+    let words = columns_words g hosted name s fields in
+    let long : 2 ≤ length (first_word hosted ∷ name ∷ space_name g s ∷ comma_word fields ∷ []) = omega arith in
+    back_from g (inl (columns_decl hosted name s fields)) (columns_with g hosted name (space_name g s) (comma_word fields))
+    (ap (draft g) words ∙ k.drafts (space_name g s) (comma_word fields)) same
     (record {
       each = (
-        new_name g name named.0 k.new,
+        new_name g name k.named k.new,
         (
           r.fine,
           (
             record {
-              named = not_from_true (is_fields g.format (comma_word fields)) (ap (list_all (is_name_in g.format)) read ∙ named.1);
+              named = not_from_true (is_fields g.format (comma_word fields)) (ap (list_all (is_name_in g.format)) read ∙ k.spelled);
               once = ap (repeats bytes_eq) read ∙ k.once;
               known = refl;
               alike = refl;
@@ -286,10 +370,44 @@ inst_back g n name s fields is fits k =
       );
       events = refl;
       columns = refl;
-      item = ap (item_fault g) same ∙ fits;
+      item = ap (item_fault g) same ∙ k.fits;
     })
-    (word_by_test (codes "inst") refl, (name_is_word g.format name named.0, (r.word, (joined_is_word 44 fields (omega arith) some (each_weaker (λ f. is_name_in g.format f ≡ true) IsWord (name_is_word g.format) fields (names_each g.format fields named.1)), tt))))
-    (omega arith)
+    (subst (AllByRecursion IsWord) (sym words)
+    (first_is_word hosted, (name_is_word g.format name k.named, (r.word, (joined_is_word 44 fields (omega arith) k.some (each_weaker (λ f. is_name_in g.format f ≡ true) IsWord (name_is_word g.format) fields (names_each g.format fields k.spelled)), tt)))))
+    (subst (λ ws. 2 ≤ length ws) (sym words) long)
+
+inst_back : (g : GraphValue) → IsNamed g → (name : List ℕ) (s : ℕ) (fields : List (List ℕ)) → IsItem g (inl (decl.Inst name s fields)) → decl_fault g (decl.Inst name s fields) ≡ None → IsKnownDecl g (decl.Inst name s fields) → ReadsBack g (inl (decl.Inst name s fields))
+inst_back g n name s fields is fits k =
+    let some : 1 ≤ length fields = ltb-false (length fields) 1 k.counted in
+    let named = and_parts (is_name_in g.format name) (list_all (is_name_in g.format) fields) is.2 in
+    columns_back g n false name s fields (record {
+      known = leb-false (length (named_spaces g)) s k.known;
+      some = some;
+      named = named.0;
+      spelled = named.1;
+      once = k.once;
+      new = k.new;
+      first = is.1;
+      fits = fits;
+      drafts = λ space word. decl_drafted g (codes "inst") name (space ∷ word ∷ []) named.0 is.1;
+    })
+
+data_back : (g : GraphValue) → IsNamed g → (name : List ℕ) (s : ℕ) (fields : List (List ℕ)) → IsItem g (inl (decl.Data name s fields)) → decl_fault g (decl.Data name s fields) ≡ None → IsKnownDecl g (decl.Data name s fields) → ReadsBack g (inl (decl.Data name s fields))
+data_back g n name s fields is fits k =
+    let some : 1 ≤ length fields = ltb-false (length fields) 1 k.counted in
+    let named = and_parts (is_name_in g.format name) (list_all (is_name_in g.format) fields) is.2 in
+    let three : has_since Three g.format ≡ true = not-false (has_since Three g.format) k.there in
+    columns_back g n true name s fields (record {
+      known = leb-false (length (named_spaces g)) s k.known;
+      some = some;
+      named = named.0;
+      spelled = named.1;
+      once = k.once;
+      new = k.new;
+      first = is.1;
+      fits = fits;
+      drafts = λ space word. decl_drafted g (codes "data") name (space ∷ word ∷ []) named.0 is.1 ∙ cond-true (has_since Three g.format) (Some (columns_with g true name space word)) None three;
+    })
 
 lock_back : (g : GraphValue) (name : List ℕ) → IsItem g (inl (decl.Lock name)) → decl_fault g (decl.Lock name) ≡ None → IsKnownDecl g (decl.Lock name) → ReadsBack g (inl (decl.Lock name))
 lock_back g name is fits k =
@@ -328,6 +446,7 @@ barrier_back g n name count o first is fits k =
 decl_reads_by : (g : GraphValue) → IsNamed g → (d : Decl) → IsItem g (inl d) → decl_fault g d ≡ None → IsKnownDecl g d → ReadsBack g (inl d)
 decl_reads_by g n (decl.Space name s) is fits k = space_back g name s is fits k
 decl_reads_by g n (decl.Inst name s fields) is fits k = inst_back g n name s fields is fits k
+decl_reads_by g n (decl.Data name s fields) is fits k = data_back g n name s fields is fits k
 decl_reads_by g n (decl.Lock name) is fits k = lock_back g name is fits k
 decl_reads_by g n (decl.Barrier name count o first) is fits k = barrier_back g n name count o first is fits k
 

@@ -20,10 +20,11 @@ use Rattle.graph_words.specs.Words.{pieces}
 use Rattle.graph_words.specs.Text.{closing, bare_of}
 use Rattle.graph_reader.specs.FirstFault.{first_line, line_count, IsRestFault, FirstBareFault, FirstFault}
 use Rattle.graph_reader.specs.Laws.{OperationsStand, refused_bare_line, refused_line, LinesStand}
-use Rattle.graph_reader.specs.Words.{IsWord}
+use Rattle.word_meanings.specs.Words.{IsWord}
 use Rattle.graph_words.proofs.Public.{known_line_of, line_of_number}
 use Rattle.graph_reader.proofs.ReadBack.{ItemFits, reads_back}
-use Rattle.graph_reader.proofs.LineSteps.{words_line, words_pieces, spelled_rest, graph_push}
+use Rattle.graph_reader.proofs.LineSteps.{spelled_rest, graph_push}
+use Rattle.word_meanings.proofs.Public.{words_line, words_pieces}
 use Rattle.graph_words.proofs.WholeText.{graph_of, line_words_kept}
 
 -- a spelled line is the first piece, without its newline

@@ -2,6 +2,5 @@ pub mod FirstFault
 pub mod Laws
 pub mod Reading
 pub mod Kinds
-pub mod Lookups
 pub mod Merges
-pub mod Words
+pub mod Calls

@@ -11,7 +11,7 @@ use Rattle.graph_terms.specs.Graph.{GraphValue}
 use Rattle.graph_terms.specs.Name.{is_name_in}
 use Rattle.graph_terms.specs.Fits.{first_reason, repeats, is_used}
 use Rattle.graph_words.specs.Draft.{line_number}
-use Rattle.graph_reader.specs.FirstFault.{is_line_name}
+use Rattle.word_meanings.specs.WordFaults.{is_line_name}
 use Rattle.graph_reader.specs.declared.item.ItemError.{ItemError}
 use Rattle.graph_reader.specs.declared.item.ItemError.TheVariants as errors
 

@@ -10,13 +10,16 @@ use Rattle.graph_terms.specs.declared.decl.Decl.TheVariants as decl
 use Rattle.graph_terms.specs.declared.why.Why.{Why}
 use Rattle.graph_terms.specs.declared.why.Why.TheVariants as why
 use Rattle.graph_terms.specs.declared.format.Format.{Format}
+use Rattle.graph_terms.specs.declared.format.Format.TheVariants.{Three}
+use Rattle.graph_terms.specs.Format.{has_since}
 use Rattle.graph_terms.specs.Name.{is_name_in}
 use Rattle.index_spaces.specs.declared.space.SpaceFault.{SpaceFault}
 use Rattle.index_spaces.specs.declared.space.SpaceFault.TheVariants as spaces
 use Rattle.std.specs.Str.{bytes_eq}
 use Rattle.graph_words.specs.Words.{pieces, ascend_from}
-use Rattle.graph_words.specs.Draft.{Draft, draft, SpaceName, space_number}
-use Rattle.graph_reader.specs.FirstFault.{words_fault, draft_fault, unlike, or_else, FirstFault, IsHeaderFault, IsLineFault, IsRestFault}
+use Rattle.graph_words.specs.Draft.{Draft, draft, SpaceName, space_number, columns_decl}
+use Rattle.graph_reader.specs.FirstFault.{words_fault, draft_fault, or_else, FirstFault, IsHeaderFault, IsLineFault, IsRestFault}
+use Rattle.word_meanings.specs.WordFaults.{unlike}
 use Rattle.graph_words.specs.Text.{text, bare_of, number_of, GraphText}
 use Rattle.graph_terms.specs.Limits.{limits}
 use Rattle.graph_reader.specs.declared.reader.Reading.{Reading}
@@ -106,8 +109,8 @@ IsDeclRead g d (Err (errors.Refused w)) = draft_fault g d ≡ Some w
 IsDeclRead g d (Err errors.NoMemory) = Unit {0}
 
 -- what the words of a line in their places are read as: a line of which the graph itself may still say a reason
-abbrev pub IsLineRead : GraphValue → Draft → Result Line ItemError → Type 0
-IsLineRead g d (Ok l) = (draft_fault g d ≡ line_fault g l) × (d.item ≡ inr l)
+abbrev pub IsLineRead : GraphValue → Draft → Result Item ItemError → Type 0
+IsLineRead g d (Ok i) = (draft_fault g d ≡ open_fault g (item_value i)) × (d.item ≡ item_value i)
 IsLineRead g d (Err (errors.Refused w)) = draft_fault g d ≡ Some w
 IsLineRead g d (Err errors.NoMemory) = Unit {0}
 
@@ -121,17 +124,21 @@ IsDeclBy r d (Err errors.NoMemory) = Unit {0}
 abbrev pub space_reason : GraphValue → List ℕ → List (ℕ × ℕ) → Option Why
 space_reason g name is = cond (ascend_from 0 is) (decl_fault g (decl.Space name is)) (Some why.Space)
 
--- the reasons that are left for an instance whose name is new and whose words are names
-abbrev pub inst_reason : GraphValue → List ℕ → List ℕ → List (List ℕ) → Option Why
-inst_reason g name space fields = or_else (first_reason (
+-- a format that has no data
+abbrev pub columns_lack : Format → Bool → Bool
+columns_lack format hosted = hosted && not (has_since Three format)
+
+-- the reasons that are left for an instance, or for data, whose name is new and whose words are names
+abbrev pub columns_reason : GraphValue → Bool → List ℕ → List ℕ → List (List ℕ) → Option Why
+columns_reason g hosted name space fields = or_else (first_reason (
     (repeats bytes_eq fields, why.Twice)
     ∷ (not (is_used g space), why.Unknown)
     ∷ (unlike g SpaceName space, why.Kind)
-    ∷ [])) (decl_fault g (decl.Inst name (space_number g space) fields))
+    ∷ [])) (decl_fault g (columns_decl hosted name (space_number g space) fields))
 
--- the declaration of an instance with these words
-abbrev pub inst_decl : GraphValue → List ℕ → List ℕ → List (List ℕ) → Decl
-inst_decl g name space fields = decl.Inst name (space_number g space) fields
+-- the declaration of an instance with these words, or of data
+abbrev pub spelled_columns : GraphValue → Bool → List ℕ → List ℕ → List (List ℕ) → Decl
+spelled_columns g hosted name space fields = columns_decl hosted name (space_number g space) fields
 
 -- the fields that a word spells in a format, or that it spells none
 abbrev pub AreFields : Format → List ℕ → List (List ℕ) → Type 0
@@ -158,7 +165,7 @@ IsDeclOf g None (Err (errors.Refused w)) = w ≡ why.Syntax
 IsDeclOf g None (Err errors.NoMemory) = Unit {0}
 
 -- what the words of a line are read as
-abbrev pub IsLineOf : GraphValue → Option Draft → Result Line ItemError → Type 0
+abbrev pub IsLineOf : GraphValue → Option Draft → Result Item ItemError → Type 0
 IsLineOf g (Some d) r = IsLineRead g d r
 IsLineOf g None (Ok x) = ⊥
 IsLineOf g None (Err (errors.Refused w)) = w ≡ why.Syntax

@@ -2,12 +2,10 @@
 
 ghost use Rattle.std.specs.Prelude.{◌≡◌, map, false, [], MatchResult};
 ghost use Rattle.graph_terms.specs.Fits.{decl_fault, is_used};
-ghost use Rattle.graph_words.specs.Draft.{space_with, inst_with, lock_with, barrier_with};
-ghost use Rattle.graph_reader.specs.Reading.{IsDeclBy, IsDeclRead, space_error, space_reason, inst_reason, inst_decl, AreFields, AreNoFields};
+ghost use Rattle.graph_words.specs.Draft.{space_with, columns_decl, columns_with, lock_with, barrier_with};
+ghost use Rattle.graph_reader.specs.Reading.{IsDeclBy, IsDeclRead, space_error, space_reason, columns_reason, spelled_columns, columns_lack, AreFields, AreNoFields};
 
-use crate::checks::{is_name, name_in, names_in};
 use crate::item::ItemError;
-use crate::lookup::{look_up, space, stands_for};
 use graph_model::graph::Graph;
 use graph_terms::decl::Decl;
 use graph_terms::limits::Limits;
@@ -21,6 +19,8 @@ use graph_words::words::split;
 use index_spaces::Op;
 use index_spaces::space::{Space, SpaceFault};
 use std::alloc::Global;
+use word_meanings::checks::{is_name, name_in, names_in};
+use word_meanings::lookup::{look_up, space, stands_for};
 
 /// The declaration, where it fits after the graph.
 fn fitting_decl(graph: &Graph, decl: Decl) -> Result<Decl, ItemError>
@@ -146,18 +146,39 @@ fn read_fields(alloc: Global, graph: &Graph, word: &[u8]) -> Result<Vec<Name>, I
     }
 }
 
-/// The declaration of an instance with these fields.
+/// The declaration of an instance with these fields, or of data.
+fn columns_decl(hosted: bool, name: Name, space: u32, fields: NameList) -> Decl
+    ensures { result ≡ columns_decl hosted name space fields }
+{
+    if hosted {
+        Decl::Data {
+            name,
+            space,
+            fields,
+        }
+    } else {
+        Decl::Inst {
+            name,
+            space,
+            fields,
+        }
+    }
+}
+
+/// The declaration of an instance with these fields, or of data where the host keeps their memory.
 fn read_named(
     alloc: Global,
     graph: &Graph,
+    hosted: bool,
     name: Name,
     space_word: &[u8],
     fields: Vec<Name>,
 ) -> Result<Decl, ItemError>
+    requires there { columns_lack graph.now.format hosted ≡ false }
     requires new { is_used graph.now name ≡ false }
     requires some { fields.items ≡ [] → ⊥ }
-    ensures { IsDeclBy (inst_reason graph.now name space_word.now fields.items)
-        (inst_decl graph.now name space_word.now fields.items) result }
+    ensures { IsDeclBy (columns_reason graph.now hosted name space_word.now fields.items)
+        (spelled_columns graph.now hosted name space_word.now fields.items) result }
 {
     match has_repeat(alloc, &fields) {
         Ok(false) => {}
@@ -175,25 +196,20 @@ fn read_named(
         return Err(ItemError::Refused(Why::Limit));
     }
     let fields = ItemList { items: fields };
-    fitting_decl(
-        graph,
-        Decl::Inst {
-            name,
-            space,
-            fields,
-        },
-    )
+    fitting_decl(graph, columns_decl(hosted, name, space, fields))
 }
 
-/// The declaration of an instance.
-pub(crate) fn read_inst(
+/// The declaration of an instance, or of data where the host keeps their memory.
+pub(crate) fn read_columns(
     alloc: Global,
     graph: &Graph,
+    hosted: bool,
     name: &[u8],
     space_word: &[u8],
     word: &[u8],
 ) -> Result<Decl, ItemError>
-    ensures { IsDeclRead graph.now (inst_with graph.now name.now space_word.now word.now) result }
+    requires { columns_lack graph.now.format hosted ≡ false }
+    ensures { IsDeclRead graph.now (columns_with graph.now hosted name.now space_word.now word.now) result }
 {
     let Some(new) = name_in(graph, name) else {
         return Err(ItemError::Refused(Why::Name));
@@ -205,5 +221,5 @@ pub(crate) fn read_inst(
     if stands_for(graph, &new).is_some() {
         return Err(ItemError::Refused(Why::Twice));
     }
-    read_named(alloc, graph, new, space_word, fields)
+    read_named(alloc, graph, hosted, new, space_word, fields)
 }

@@ -1,4 +1,4 @@
-//! Operation lines but for merges.
+//! Operation lines but for merges and calls.
 
 ghost use Rattle.basics.specs.Words.{contents};
 ghost use Rattle.std.specs.Prelude.{◌≡◌, ◌<◌, ◌≤◌, ◌&&◌, ◌||◌, false, drop, map, length, List, ℕ, [], ◌+◌, slice_index_or, IfOk};
@@ -7,15 +7,11 @@ ghost use Rattle.std.specs.Str.{bytes_eq};
 ghost use Rattle.graph_terms.specs.Fits.{repeats};
 ghost use Rattle.graph_terms.specs.Table.{is_column, parts_of};
 ghost use Rattle.graph_words.specs.Draft.{number_in, words_in};
-ghost use Rattle.graph_reader.specs.Kinds.{kind_placed, form_placed, AllTell, column_words, kind_draft, kind_on, form_repeats, later_reason, HasPlaces, IsFormFault};
+ghost use Rattle.graph_reader.specs.Kinds.{kind_placed, form_placed, column_words, kind_draft, kind_on, form_repeats, later_reason, HasPlaces, IsFormFault};
+ghost use Rattle.word_meanings.specs.Telling.{AllTell};
 ghost use Rattle.graph_reader.specs.Reading.{IsLineRead};
 
-use crate::checks::name_in;
-use crate::events::{events_repeat, see_events};
-use crate::faults::Faults;
-use crate::item::ItemError;
-use crate::lookup::stands_for;
-use crate::parts::read_parts;
+use crate::item::{Item, ItemError};
 use graph_model::graph::Graph;
 use graph_terms::lists::EventList;
 use graph_terms::name::Name;
@@ -25,6 +21,11 @@ use graph_terms::why::Why;
 use graph_words::words::{behind, on_events, word};
 use index_spaces::NoMemory;
 use std::alloc::Global;
+use word_meanings::checks::name_in;
+use word_meanings::events::{events_repeat, see_events};
+use word_meanings::faults::Faults;
+use word_meanings::lookup::stands_for;
+use word_meanings::parts::read_parts;
 
 fn is_column(place: Place) -> bool
     ensures { result ≡ is_column place }
@@ -117,7 +118,7 @@ fn is_twice(
 }
 
 /// The first reason that refuses a word of a line but for its spelling and what stands there twice.
-fn later_fault(faults: Faults) -> Option<Why>
+pub(crate) fn later_fault(faults: Faults) -> Option<Why>
     ensures { result ≡ later_reason faults }
 {
     if faults.unknown {
@@ -167,7 +168,7 @@ pub(crate) fn read_form(
     kind: Kind,
     name: &[u8],
     words: &[&[u8]],
-) -> Result<Line, ItemError>
+) -> Result<Item, ItemError>
     requires { HasPlaces kind (contents words.now) }
     ensures { IsLineRead graph.now (kind_draft graph.now kind name.now (contents words.now)) result }
 {
@@ -182,9 +183,9 @@ pub(crate) fn read_form(
         Ok(Some(why)) => return Err(ItemError::Refused(why)),
         Err(_) => return Err(ItemError::NoMemory),
     }
-    Ok(Line {
+    Ok(Item::Line(Line {
         name,
         verb: Verb::of(kind, &parts),
         on,
-    })
+    }))
 }

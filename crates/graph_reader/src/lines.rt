@@ -5,20 +5,21 @@ ghost use Rattle.std.specs.Prelude.{◌≡◌, ℕ, ◌<◌, map, [], false, tru
 ghost use Rattle.std.specs.List.{list_any};
 ghost use Rattle.std.specs.Str.{bytes_eq};
 ghost use Rattle.graph_words.specs.Words.{pieces};
-ghost use Rattle.graph_words.specs.Draft.{op_of, line_draft, decl_draft, space_draft, inst_draft, lock_draft, barrier_draft, merge_draft, form_of, is_of_form};
-ghost use Rattle.graph_reader.specs.FirstFault.{is_empty};
+ghost use Rattle.graph_words.specs.Draft.{op_of, line_draft, decl_draft, space_draft, inst_draft, data_draft, lock_draft, barrier_draft, merge_draft, form_of, is_of_form};
+ghost use Rattle.word_meanings.specs.Words.{is_empty};
 ghost use Rattle.graph_reader.specs.Kinds.{kind_draft};
 ghost use Rattle.graph_reader.specs.Merges.{merge_verb};
 ghost use Rattle.graph_reader.specs.Reading.{IsDeclOf, IsLineOf, IsLineRead, IsWordsItem, is_operation};
 
-use crate::decls::{read_barrier, read_inst, read_lock, read_space};
+use crate::calls::call_line;
+use crate::decls::{read_barrier, read_columns, read_lock, read_space};
 use crate::forms::read_form;
 use crate::item::{Item, ItemError};
 use crate::merges::read_merge;
 use graph_model::graph::Graph;
 use graph_terms::decl::Decl;
+use graph_terms::format::Format;
 use graph_terms::table::Kind;
-use graph_terms::verb::Line;
 use graph_terms::why::Why;
 use graph_words::words::{behind, kind_of, split_into, word};
 use index_spaces::Op;
@@ -58,7 +59,32 @@ fn inst_line(alloc: Global, graph: &Graph, words: &[&[u8]]) -> Result<Decl, Item
     if words.len() != 4 {
         return Err(ItemError::Refused(Why::Syntax));
     }
-    read_inst(alloc, graph, word(words, 1), word(words, 2), word(words, 3))
+    read_columns(
+        alloc,
+        graph,
+        false,
+        word(words, 1),
+        word(words, 2),
+        word(words, 3),
+    )
+}
+
+/// The declaration of data by its words, of which the first says so.
+#[tactic(auto, using(crate::proofs::LineShapes::no_data_shape))]
+fn data_line(alloc: Global, graph: &Graph, words: &[&[u8]]) -> Result<Decl, ItemError>
+    ensures { IsDeclOf graph.now (data_draft graph.now (drop 1 (contents words.now))) result }
+{
+    if !graph.format().has_since(Format::Three) || words.len() != 4 {
+        return Err(ItemError::Refused(Why::Syntax));
+    }
+    read_columns(
+        alloc,
+        graph,
+        true,
+        word(words, 1),
+        word(words, 2),
+        word(words, 3),
+    )
 }
 
 /// The declaration of a reservation by its words, of which the first says so.
@@ -103,6 +129,9 @@ fn read_decl(alloc: Global, graph: &Graph, words: &[&[u8]]) -> Result<Decl, Item
     if kind == b"barrier".as_slice() {
         return barrier_line(graph, words);
     }
+    if kind == b"data".as_slice() {
+        return data_line(alloc, graph, words);
+    }
     Err(ItemError::Refused(Why::Syntax))
 }
 
@@ -113,7 +142,7 @@ fn merge_line(
     ignores: bool,
     name: &[u8],
     words: &[&[u8]],
-) -> Result<Line, ItemError>
+) -> Result<Item, ItemError>
     ensures { IsLineOf graph.now (merge_draft graph.now name.now (merge_verb ignores) (drop 1 (contents words.now))) result }
 {
     if words.len() < 2 {
@@ -129,7 +158,7 @@ fn kind_line(
     kind: Kind,
     name: &[u8],
     words: &[&[u8]],
-) -> Result<Line, ItemError>
+) -> Result<Item, ItemError>
     requires { is_of_form graph.now.format (contents words.now) (form_of kind) ≡ true }
     ensures { IsLineRead graph.now (kind_draft graph.now kind name.now (drop (length (form_of kind).words) (contents words.now))) result }
 {
@@ -137,7 +166,7 @@ fn kind_line(
 }
 
 /// The operation line with this name that the words behind the sign spell.
-fn read_line(alloc: Global, graph: &Graph, name: &[u8], words: &[&[u8]]) -> Result<Line, ItemError>
+fn read_line(alloc: Global, graph: &Graph, name: &[u8], words: &[&[u8]]) -> Result<Item, ItemError>
     ensures { IsLineOf graph.now (line_draft graph.now name.now (contents words.now)) result }
 {
     let verb = word(words, 0);
@@ -146,6 +175,9 @@ fn read_line(alloc: Global, graph: &Graph, name: &[u8], words: &[&[u8]]) -> Resu
     }
     if verb == b"mergei".as_slice() {
         return merge_line(alloc, graph, true, name, words);
+    }
+    if verb == b"call".as_slice() {
+        return call_line(alloc, graph, name, words);
     }
     match kind_of(graph.format(), words) {
         Some(kind) => kind_line(alloc, graph, kind, name, words),
@@ -172,10 +204,7 @@ fn operation(alloc: Global, graph: &Graph, words: &[&[u8]]) -> Result<Item, Item
     requires operation { is_operation (contents words.now) ≡ true }
     ensures { IsWordsItem graph.now (contents words.now) result }
 {
-    match read_line(alloc, graph, word(words, 0), behind(words, 2)) {
-        Ok(line) => Ok(Item::Line(line)),
-        Err(error) => Err(error),
-    }
+    read_line(alloc, graph, word(words, 0), behind(words, 2))
 }
 
 /// The declaration that words spell, of which none is empty.

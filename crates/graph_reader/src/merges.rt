@@ -10,9 +10,7 @@ ghost use Rattle.graph_words.specs.Draft.{line_number, merge_with};
 ghost use Rattle.graph_reader.specs.Merges.{merge_verb, merge_reason, all_lines, IsMergeError};
 ghost use Rattle.graph_reader.specs.Reading.{IsLineRead};
 
-use crate::checks::{name_in, names_in, names_repeat};
-use crate::item::ItemError;
-use crate::lookup::{line, look_up, stands_for};
+use crate::item::{Item, ItemError};
 use graph_model::graph::Graph;
 use graph_terms::limits::MAX_EVENTS;
 use graph_terms::lists::{EventList, LineList};
@@ -23,6 +21,8 @@ use graph_words::names::has_repeat;
 use index_spaces::NoMemory;
 use index_spaces::room::{push_within, with_room};
 use std::alloc::Global;
+use word_meanings::checks::{name_in, names_in, names_repeat};
+use word_meanings::lookup::{line, look_up, stands_for};
 
 /// Whether a word names no item.
 fn any_unknown(graph: &Graph, words: &[&[u8]]) -> bool
@@ -119,7 +119,7 @@ fn read_lines(
     name: Name,
     words: &[&[u8]],
     numbers: Vec<u32>,
-) -> Result<Line, ItemError>
+) -> Result<Item, ItemError>
     requires named { is_name_in graph.now.format name ≡ true }
     requires lines { all_lines graph.now (contents words.now) ≡ true }
     requires numbers { numbers.items ≡ map (line_number graph.now) (contents words.now) }
@@ -132,7 +132,7 @@ fn read_lines(
         Err(_) => return Err(ItemError::NoMemory),
     }
     match merged(alloc, ignores, name, numbers) {
-        Ok(line) => Ok(line),
+        Ok(line) => Ok(Item::Line(line)),
         Err(_) => Err(ItemError::NoMemory),
     }
 }
@@ -144,7 +144,7 @@ pub(crate) fn read_merge(
     ignores: bool,
     name: &[u8],
     words: &[&[u8]],
-) -> Result<Line, ItemError>
+) -> Result<Item, ItemError>
     ensures { IsLineRead graph.now (merge_with graph.now name.now (merge_verb ignores) (contents words.now)) result }
 {
     let Some(name) = name_in(graph, name) else {

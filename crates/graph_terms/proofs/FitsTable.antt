@@ -6,13 +6,13 @@ use Rattle.std.proofs.lemmas.Bool.{true≢false, and_parts, leb-true, ltb-true}
 use Rattle.index_spaces.specs.Space.{AscendAbove}
 use Rattle.graph_terms.specs.declared.format.Format.{Format}
 use Rattle.graph_terms.specs.declared.decl.Decl.{Decl}
-use Rattle.graph_terms.specs.declared.decl.Decl.TheVariants.{Space, Inst, Lock, Barrier}
+use Rattle.graph_terms.specs.declared.decl.Decl.TheVariants.{Space, Inst, Lock, Barrier, Data}
 use Rattle.graph_terms.specs.declared.verb.Line.{Line}
 use Rattle.graph_terms.specs.declared.format.Format.TheVariants.{Three}
 use Rattle.graph_terms.specs.Name.{is_name_in}
 use Rattle.graph_terms.specs.Graph.{GraphValue}
 use Rattle.graph_terms.proofs.FormatLaws.{later_names, three_is_last}
-use Rattle.graph_terms.specs.Fits.{decl_fault, line_fault, IsDecl, is_decl_named, AreValues, verb_values, DeclsFit, LinesFit, IsGraph}
+use Rattle.graph_terms.specs.Fits.{decl_fault, line_fault, IsDecl, is_decl_named, AreValues, verb_values, DeclsFit, LinesFit, IsGraph, is_called}
 
 -- the intervals ascend
 abbrev pub ascends : ℕ → List (ℕ × ℕ) → Bool
@@ -39,6 +39,7 @@ names_by fm (name ∷ names) h = let a = and_parts (is_name_in fm name) (list_al
 abbrev pub is_decl : Decl → Bool
 is_decl (Space name space) = nat_lt 0 (length space) && ascends 0 space
 is_decl (Inst name space fields) = nat_lt space (2 ^ 32)
+is_decl (Data name space fields) = nat_lt space (2 ^ 32)
 is_decl (Lock name) = true
 is_decl (Barrier name count op first) = nat_lt count (2 ^ 32) && nat_lt first (2 ^ 64)
 
@@ -47,6 +48,9 @@ decl_by fm (Space name space) n h =
     let b = and_parts (nat_lt 0 (length space)) (ascends 0 space) h in
     (long_by fm name n, (ltb-true 0 (length space) b.0, ascends_by 0 space b.1))
 decl_by fm (Inst name space fields) n h =
+    let a = and_parts (is_name_in fm name) (list_all (is_name_in fm) fields) n in
+    (long_by fm name a.0, ltb-true space (2 ^ 32) h, names_by fm fields a.1)
+decl_by fm (Data name space fields) n h =
     let a = and_parts (is_name_in fm name) (list_all (is_name_in fm) fields) n in
     (long_by fm name a.0, ltb-true space (2 ^ 32) h, names_by fm fields a.1)
 decl_by fm (Lock name) n h = long_by fm name n
@@ -83,15 +87,16 @@ decls_by fm before (d ∷ ds) h =
 
 abbrev pub lines_fit : Format → List Decl → List Line → List Line → Bool
 lines_fit fm decls before [] = true
-lines_fit fm decls before (l ∷ ls) = is_name_in fm l.name && (are_values (verb_values l.verb) && (not (is_some (line_fault (record { format = fm; decls = decls; lines = before }) l)) && lines_fit fm decls (before ++ l ∷ []) ls))
+lines_fit fm decls before (l ∷ ls) = is_name_in fm l.name && (is_called l.verb && (are_values (verb_values l.verb) && (not (is_some (line_fault (record { format = fm; decls = decls; lines = before }) l)) && lines_fit fm decls (before ++ l ∷ []) ls)))
 
 lines_by : (fm : Format) (decls : List Decl) (before ls : List Line) → lines_fit fm decls before ls ≡ true → LinesFit fm decls before ls
 lines_by fm decls before [] h = tt
 lines_by fm decls before (l ∷ ls) h =
     let a = and_parts (is_name_in fm l.name) _ h in
-    let b = and_parts (are_values (verb_values l.verb)) _ a.1 in
+    let d = and_parts (is_called l.verb) _ a.1 in
+    let b = and_parts (are_values (verb_values l.verb)) _ d.1 in
     let c = and_parts (not (is_some (line_fault (record { format = fm; decls = decls; lines = before }) l))) (lines_fit fm decls (before ++ l ∷ []) ls) b.1 in
-    (record { named = long_by fm l.name a.0; values = values_by (verb_values l.verb) b.0 }, no_fault _ c.0, lines_by fm decls (before ++ l ∷ []) ls c.1, a.0)
+    (record { named = long_by fm l.name a.0; values = values_by (verb_values l.verb) b.0; called = d.0 }, no_fault _ c.0, lines_by fm decls (before ++ l ∷ []) ls c.1, a.0)
 
 pub fits_by_computing : (g : GraphValue) → decls_fit g.format [] g.decls ≡ true → lines_fit g.format g.decls [] g.lines ≡ true → IsGraph g
 fits_by_computing g decls lines = record { decls = decls_by g.format [] g.decls decls; lines = lines_by g.format g.decls [] g.lines lines }

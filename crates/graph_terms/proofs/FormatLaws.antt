@@ -4,10 +4,10 @@ use Rattle.std.specs.Prelude.{nat_le, nat_lt, ◌==◌}
 use Rattle.std.specs.Char.{is_ascii_lowercase, is_ascii_uppercase, is_ascii_digit}
 use Rattle.std.specs.List.{list_all}
 use Rattle.std.proofs.lemmas.Bool.{false≢true, and_parts, and_from, or_cases, or_left, or_right, or_parts, or_from, leb-true, le-leb, ltb-false, le-ltb}
-use Rattle.graph_terms.specs.declared.decl.Decl.TheVariants.{Space, Inst, Lock, Barrier}
+use Rattle.graph_terms.specs.declared.decl.Decl.TheVariants.{Space, Inst, Lock, Barrier, Data}
 use Rattle.graph_terms.specs.declared.format.Format.{Format}
 use Rattle.graph_terms.specs.declared.format.Format.TheVariants.{One, Two, Three}
-use Rattle.graph_terms.specs.declared.verb.Verb.TheVariants.{Acquire}
+use Rattle.graph_terms.specs.declared.verb.Verb.TheVariants.{Acquire, Call}
 use Rattle.graph_terms.specs.Format.{has_since}
 use Rattle.graph_terms.specs.Fits.{takes_no_on, merged_events}
 use Rattle.graph_terms.specs.declared.limits.Limits.{Limits}
@@ -43,9 +43,19 @@ shared_too Three One s e = absurd (false≢true s)
 shared_too f Two s e = refl
 shared_too f Three s e = refl
 
+calls_too : (f h : Format) → has_since f h ≡ true → not (has_since Three f) ≡ false → not (has_since Three h) ≡ false
+calls_too One One s e = e
+calls_too Two One s e = absurd (false≢true s)
+calls_too Three One s e = absurd (false≢true s)
+calls_too One Two s e = e
+calls_too Two Two s e = e
+calls_too Three Two s e = absurd (false≢true s)
+calls_too f Three s e = refl
+
 pub later_verbs : LaterFormatsHaveVerbs
 later_verbs f h s (Acquire lock true) e = shared_too f h s e
 later_verbs f h s (Acquire lock false) e = refl
+later_verbs f h s (Call call) e = calls_too f h s e
 later_verbs f h s v e = refl
 
 several_too : (f h : Format) → has_since f h ≡ true → (on : List ℕ) → (not (has_since Three f) && nat_lt 1 (length on)) ≡ false → (not (has_since Three h) && nat_lt 1 (length on)) ≡ false
@@ -171,6 +181,9 @@ later_fields f h s (w ∷ ws) e =
 pub later_decls : LaterFormatsHaveDeclarations
 later_decls f h s (Space name space) e = later_names f h s name e
 later_decls f h s (Inst name space fields) e =
+    let p = and_parts (is_name_in f name) (list_all (is_name_in f) fields) e in
+    and_from (is_name_in h name) (list_all (is_name_in h) fields) (later_names f h s name p.0) (later_fields f h s fields p.1)
+later_decls f h s (Data name space fields) e =
     let p = and_parts (is_name_in f name) (list_all (is_name_in f) fields) e in
     and_from (is_name_in h name) (list_all (is_name_in h) fields) (later_names f h s name p.0) (later_fields f h s fields p.1)
 later_decls f h s (Lock name) e = later_names f h s name e

@@ -9,7 +9,7 @@ use Rattle.std.proofs.lemmas.List.Elements.{Contains-append_left, Contains-appen
 use Rattle.index_spaces.specs.Space.{IsSpace}
 use Rattle.graph_terms.specs.declared.format.Format.{Format}
 use Rattle.graph_terms.specs.declared.decl.Decl.{Decl}
-use Rattle.graph_terms.specs.declared.decl.Decl.TheVariants.{Space, Inst, Lock, Barrier}
+use Rattle.graph_terms.specs.declared.decl.Decl.TheVariants.{Space, Inst, Lock, Barrier, Data}
 use Rattle.graph_terms.specs.declared.verb.Edge.{Edge}
 use Rattle.graph_terms.specs.declared.verb.EdgeKind.{EdgeKind}
 use Rattle.graph_terms.specs.declared.verb.EdgeKind.TheVariants.{Passes, Ignores, Faults}
@@ -18,13 +18,13 @@ use Rattle.graph_terms.specs.declared.why.Why.{Why}
 use Rattle.graph_terms.specs.declared.why.Why.TheVariants as why
 use Rattle.graph_terms.specs.declared.verb.Verb.{Verb}
 use Rattle.graph_terms.specs.declared.verb.Verb.TheVariants.{Trigger, Cancel, Merge, MergeIgnore, Phase, Arrive}
-use Rattle.graph_terms.specs.Graph.{GraphValue, is_phase_of, space_of, named_spaces, space_at, barriers, columns_of, columns}
+use Rattle.graph_terms.specs.Graph.{GraphValue, is_phase_of, space_of, named_spaces, space_at, barriers, columns_of, columns, data_columns_of, data_columns}
 use Rattle.graph_terms.specs.Edges.{edge, last_place, edges_from_some, on_edges, verb_edges, line_edges, edges_after, EndsUpTo}
 use Rattle.graph_terms.specs.Fits.{first_reason, line_tests, line_fault, line_unknown, named_lines, verb_unknown, LinesFit, IsGraph, decl_unknown, decl_tests, decl_fault}
 use Rattle.graph_terms.proofs.ArriveLaws.{arrive_names}
 use Rattle.basics.proofs.ListFacts.{contains_none, contains_cases, contains_here, passes_some, map_contains}
 use Rattle.graph_terms.specs.declared.decl.ColumnInfo.{ColumnInfo}
-use Rattle.graph_terms.specs.Laws.{NoReasonNoFault, FittingLinesNameKnown, NamedLinesAreAbove, EdgesReachNoFurther, EdgesJoinLines, DeclaredSpacesAreSpaces, LinesFitInPlace, NumberedSpacesAreSpaces, BarrierOfPhaseDeclared, SpacesOfColumnsDeclared, SpaceOfColumnDeclared}
+use Rattle.graph_terms.specs.Laws.{NoReasonNoFault, FittingLinesNameKnown, NamedLinesAreAbove, EdgesReachNoFurther, EdgesJoinLines, DeclaredSpacesAreSpaces, LinesFitInPlace, NumberedSpacesAreSpaces, BarrierOfPhaseDeclared, SpacesOfColumnsDeclared, SpaceOfColumnDeclared, SpacesOfDataDeclared, SpaceOfDataDeclared}
 
 no_first_by : (b : Bool) (w : Why) (ts : List (Bool × Why)) → cond b (Some w) (first_reason ts) ≡ None → (b ≡ false) × (first_reason ts ≡ None)
 no_first_by true w ts h = absurd (true≢false (ap is_some h))
@@ -112,6 +112,7 @@ spaces_are fm before (Space name space ∷ ds) f x c = elim (contains_cases (nam
   | inr r ↦ spaces_are fm (before ++ Space name space ∷ []) ds f.2 x r
 ]
 spaces_are fm before (Inst name space fields ∷ ds) f x c = spaces_are fm (before ++ Inst name space fields ∷ []) ds f.2 x c
+spaces_are fm before (Data name space fields ∷ ds) f x c = spaces_are fm (before ++ Data name space fields ∷ []) ds f.2 x c
 spaces_are fm before (Lock name ∷ ds) f x c = spaces_are fm (before ++ Lock name ∷ []) ds f.2 x c
 spaces_are fm before (Barrier name count op first ∷ ds) f x c = spaces_are fm (before ++ Barrier name count op first ∷ []) ds f.2 x c
 
@@ -159,8 +160,33 @@ columns_known fm before (d ∷ ds) f x c = elim (Contains-append_cases (columns_
         let m = map_contains (λ f. record { inst = name; field = f; space = space }) fields x c in
         let known : decl_unknown g (Inst name space fields) ≡ false = none_first (decl_tests g (Inst name space fields)) h (decl_unknown g (Inst name space fields), why.Unknown) (1, omega arith, refl) in
         subst (λ (y : ColumnInfo). y.space < length (filter_map space_of before)) m.2 (leb-false (length (filter_map space_of before)) space known)
+    known_here fm before (Data name space fields) h x c = absurd (contains_none x c)
     known_here fm before (Lock name) h x c = absurd (contains_none x c)
     known_here fm before (Barrier name count op first) h x c = absurd (contains_none x c)
+
+-- the same of the columns of data
+pub data_columns_known : SpacesOfDataDeclared
+data_columns_known fm before [] f x c = absurd (contains_none x c)
+data_columns_known fm before (d ∷ ds) f x c = elim (Contains-append_cases (data_columns_of d) (flat_map data_columns_of ds) x c) [
+  | inl here ↦ (let k : x.space < length (filter_map space_of before) = known_here fm before d f.1 x here in
+      let e : length (filter_map space_of (before ++ d ∷ ds)) ≡ length (filter_map space_of before) + length (filter_map space_of (d ∷ ds)) =
+      ap length (filter_map-append space_of before (d ∷ ds)) ∙ length-append (filter_map space_of before) (filter_map space_of (d ∷ ds)) in omega arith)
+  | inr there ↦ subst (λ l. x.space < length (filter_map space_of l)) (append_assoc before (d ∷ []) ds) (data_columns_known fm (before ++ d ∷ []) ds f.2 x there)
+]
+  where
+    known_here : (fm : Format) (before : List Decl) (d : Decl) → decl_fault (record { format = fm; decls = before; lines = [] }) d ≡ None → (x : ColumnInfo) → Contains (data_columns_of d) x → x.space < length (filter_map space_of before)
+    known_here fm before (Space name space) h x c = absurd (contains_none x c)
+    known_here fm before (Inst name space fields) h x c = absurd (contains_none x c)
+    known_here fm before (Data name space fields) h x c =
+        let g : GraphValue = record { format = fm; decls = before; lines = [] } in
+        let m = map_contains (λ f. record { inst = name; field = f; space = space }) fields x c in
+        let known : decl_unknown g (Data name space fields) ≡ false = none_first (decl_tests g (Data name space fields)) h (decl_unknown g (Data name space fields), why.Unknown) (1, omega arith, refl) in
+        subst (λ (y : ColumnInfo). y.space < length (filter_map space_of before)) m.2 (leb-false (length (filter_map space_of before)) space known)
+    known_here fm before (Lock name) h x c = absurd (contains_none x c)
+    known_here fm before (Barrier name count op first) h x c = absurd (contains_none x c)
+
+pub data_space_known : SpaceOfDataDeclared
+data_space_known g f c x e = data_columns_known g.format [] g.decls f.decls x (c, slice_get_within (data_columns g) c x e, get_or_from_slice_get (data_columns g) c x x e)
 
 pub column_space_known : SpaceOfColumnDeclared
 column_space_known g f c x e = columns_known g.format [] g.decls f.decls x (c, slice_get_within (columns g) c x e, get_or_from_slice_get (columns g) c x x e)

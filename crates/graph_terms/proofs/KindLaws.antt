@@ -16,7 +16,7 @@ use Rattle.graph_terms.specs.declared.table.Parts.{Parts}
 use Rattle.graph_terms.specs.declared.verb.Access.{Access}
 use Rattle.graph_terms.specs.declared.verb.Mode.{Mode}
 use Rattle.graph_terms.specs.declared.verb.Verb.{Verb}
-use Rattle.graph_terms.specs.declared.verb.Verb.TheVariants.{User, Merge, MergeIgnore, Arrive, Acquire, Reduce, Task}
+use Rattle.graph_terms.specs.declared.verb.Verb.TheVariants.{User, Merge, MergeIgnore, Arrive, Acquire, Reduce, Task, Call}
 use Rattle.graph_terms.specs.declared.table.Kernel.{Kernel}
 use Rattle.graph_terms.specs.declared.table.Kernel.TheVariants.{Iota}
 use Rattle.graph_terms.specs.Table.{kind_places, kernel_kind, kernel_parts, arrive_kind, arrive_parts, acquire_kind, acquire_parts, verb_kind, verb_parts, verb_places, verb_of, Placed, any_placed, is_column, is_over, is_space, columns_first, in_order, each_in_order, is_row, part_in, parts_from, NumbersFit}
@@ -73,6 +73,7 @@ again : (v : Verb) → MatchOption (verb_kind v) (Unit {0}) (λ k. verb_of k (ve
 again User = refl
 again (Merge events) = tt
 again (MergeIgnore events) = tt
+again (Call call) = tt
 again (Reduce op.Sum a b s) = refl
 again (Reduce op.Min a b s) = refl
 again (Reduce op.Max a b s) = refl

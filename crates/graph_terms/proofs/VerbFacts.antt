@@ -1,5 +1,5 @@
 -- What a line is that passes a test of verbs, and where the edges lead that it gives.
-use Rattle.std.proofs.Common.{◌≡◌, ℕ, Bool, true, false, ◌&&◌, List, [], ◌∷◌, length, refl, sym, ◌∙◌, ap, ◌⊎◌, inl, inr, ◌<◌, arith}
+use Rattle.std.proofs.Common.{◌≡◌, ℕ, Bool, true, false, ◌&&◌, List, [], ◌∷◌, length, refl, sym, ◌∙◌, ap, ◌⊎◌, inl, inr, ◌<◌, arith, ◌^◌}
 use Rattle.std.specs.Prelude.{Option, Some, None, nat_lt, option_map, slice_get, Contains}
 use Rattle.std.specs.Option.{option_map_or}
 use Rattle.std.proofs.lemmas.Bool.{true≢false, eq-eqb, eqb-true, not-true, lt-ltb}
@@ -12,6 +12,7 @@ use Rattle.graph_terms.specs.declared.verb.Edge.{Edge}
 use Rattle.graph_terms.specs.declared.verb.EdgeKind.{EdgeKind}
 use Rattle.graph_terms.specs.declared.verb.EdgeKind.TheVariants.{Passes, Ignores, Faults}
 use Rattle.graph_terms.specs.Edges.{edge, last_place, edges_from_some, on_edges, verb_edges}
+use Rattle.graph_terms.specs.Fits.{AreValues}
 use Rattle.basics.proofs.ListFacts.{contains_none, contains_cases, map_contains}
 use Rattle.graph_terms.specs.Laws.{AcquireByTest, ReleaseByTest, VerbOfAcquire, VerbOfRelease, AcquiresByVerb, ReleasesByVerb, PassingLineHasVerb, LinePassesAsVerb, VerbHasLine, VerbsAreBelowEnd, PassingLinesAreBelowEnd, ReleasesOneAcquire, AcquiresOneReservation, BothSharedEitherWay, PhaseByTest, AcquiresOrNot, NeverComesAs}
 
@@ -136,3 +137,8 @@ verb_edge_to before (MergeIgnore ks) e c = inl (let m = map_contains (λ e. edge
 verb_edge_to before (Phase k) e c = inl (from_some_to Ignores (last_place (is_phase_of k) 0 before None) (length before) e c, refl)
 verb_edge_to before (Arrive k n w) e c = inr (inr (k, n, w, refl, (let s = one_is (edge (length before) k Passes) e c in sym (ap (λ (x : Edge). x.to) s))))
 verb_edge_to before v e c = absurd (contains_none e c)
+
+-- one more value before others
+pub one_more_value : (n : ℕ) (ns : List ℕ) → n < 2 ^ 64 → AreValues ns → AreValues (n ∷ ns)
+one_more_value n [] h are = h
+one_more_value n (m ∷ ms) h are = (h, are)

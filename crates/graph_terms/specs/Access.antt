@@ -1,5 +1,5 @@
 -- What a line reads and writes, and when two lines conflict.
-use Rattle.std.specs.Prelude.{◌≡◌, ◌≢◌, ℕ, nat_eq, Bool, true, false, List, [], ◌∷◌, map, zip, filter_map, Contains, Option, Some, None, slice_index, slice_get, IsTrue}
+use Rattle.std.specs.Prelude.{◌≡◌, ◌≢◌, ℕ, ◌+◌, nat_eq, Bool, true, false, List, [], ◌∷◌, ◌++◌, length, map, zip, filter_map, Contains, Option, Some, None, slice_index, slice_get, IsTrue}
 use Rattle.std.specs.Option.{option_map_or}
 use Rattle.index_spaces.specs.Space.{Meet}
 use Rattle.graph_terms.specs.declared.verb.Access.{Access}
@@ -8,13 +8,13 @@ use Rattle.graph_terms.specs.declared.verb.Mode.TheVariants.{Read, Write, Sum, L
 use Rattle.graph_terms.specs.declared.format.Format.{Format}
 use Rattle.graph_terms.specs.declared.format.Format.TheVariants.{One}
 use Rattle.graph_terms.specs.declared.verb.Verb.{Verb}
-use Rattle.graph_terms.specs.declared.verb.Verb.TheVariants.{Task}
+use Rattle.graph_terms.specs.declared.verb.Verb.TheVariants.{Task, Call}
 use Rattle.graph_terms.specs.declared.table.Kernel.{Kernel}
 use Rattle.graph_terms.specs.declared.table.Parts.{Parts}
 use Rattle.graph_terms.specs.declared.table.Place.{Place}
 use Rattle.graph_terms.specs.declared.table.Place.TheVariants.{Column}
 use Rattle.graph_terms.specs.Table.{Placed, verb_places, verb_parts}
-use Rattle.graph_terms.specs.Graph.{GraphValue, verb_at, space_at}
+use Rattle.graph_terms.specs.Graph.{GraphValue, verb_at, space_at, columns}
 
 abbrev pub access : ℕ → ℕ → Mode → Access
 access column space mode = record { «column» = column; «space» = space; «mode» = mode }
@@ -68,9 +68,22 @@ mode_in f Most = or_write f Most
 abbrev pub in_format : Format → Access → Access
 in_format f a = access a.column a.space (mode_in f a.mode)
 
--- the accesses of a line, in order
+-- the accesses of a line to columns with cells, in order
 abbrev pub accesses : GraphValue → ℕ → List Access
 accesses g i = map (in_format g.format) (option_map_or verb_accesses (verb_at g i) [])
+
+-- the accesses of a call, each of a column of data
+abbrev pub call_accesses : Verb → List Access
+call_accesses (Call call) = call.accesses
+call_accesses _ = []
+
+-- an access of a column of data, where these columns are numbered behind those with cells
+abbrev pub behind_columns : GraphValue → Access → Access
+behind_columns g a = access (length (columns g) + a.column) a.space a.mode
+
+-- the accesses of a line to columns of both kinds, in order; a line has those of one kind alone
+abbrev pub all_accesses : GraphValue → ℕ → List Access
+all_accesses g i = accesses g i ++ map (behind_columns g) (option_map_or call_accesses (verb_at g i) [])
 
 abbrev pub is_read : Mode → Bool
 is_read Read = true
@@ -99,6 +112,6 @@ pub record Conflict (g : GraphValue) (i j : ℕ) : Type 0 where
   pub different : i ≢ j
   pub one : Access
   pub other : Access
-  pub one_in : Contains (accesses g i) one
-  pub other_in : Contains (accesses g j) other
+  pub one_in : Contains (all_accesses g i) one
+  pub other_in : Contains (all_accesses g j) other
   pub conflict : AccessesConflict g one other

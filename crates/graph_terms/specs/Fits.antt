@@ -1,30 +1,31 @@
 -- When an item fits after a graph: the reasons that may refuse it, in their order.
-use Rattle.std.specs.Prelude.{◌≡◌, ℕ, ◌+◌, ◌^◌, ◌<◌, nat_lt, nat_le, nat_eq, Bool, true, false, cond, not, ◌&&◌, ◌||◌, List, [], ◌∷◌, ◌++◌, length, map, filter, filter_map, sum_by, Option, Some, None, IsTrue}
+use Rattle.std.specs.Prelude.{◌≡◌, ℕ, ◌+◌, ◌^◌, ◌<◌, nat_lt, nat_le, nat_eq, Bool, true, false, cond, not, ◌&&◌, ◌||◌, List, [], ◌∷◌, ◌++◌, length, take, map, filter, filter_map, sum_by, Option, Some, None, IsTrue}
 use Rattle.std.specs.Option.{option_map_or}
 use Rattle.std.specs.List.{list_any, list_all, AllByRecursion}
 use Rattle.std.specs.Str.{bytes_eq}
 use Rattle.index_spaces.specs.Space.{has_point, points, space_size, IsSpace}
-use Rattle.graph_terms.specs.declared.limits.TheConstants.{MAX_TEXT, MAX_SPACES}
+use Rattle.graph_terms.specs.declared.limits.TheConstants.{MAX_TEXT, MAX_SPACES, MAX_CALL_ACCESSES, MAX_COMPARED_ACCESSES, MAX_CALL_VALUES}
 use Rattle.graph_terms.specs.Limits.{limits}
 use Rattle.graph_terms.specs.declared.format.Format.{Format}
 use Rattle.graph_terms.specs.declared.format.Format.TheVariants.{One, Two, Three}
 use Rattle.graph_terms.specs.Format.{has_since}
 use Rattle.graph_terms.specs.declared.decl.Decl.{Decl}
-use Rattle.graph_terms.specs.declared.decl.Decl.TheVariants.{Space, Inst, Lock, Barrier}
+use Rattle.graph_terms.specs.declared.decl.Decl.TheVariants.{Space, Inst, Data, Lock, Barrier}
 use Rattle.graph_terms.specs.declared.verb.Line.{Line}
 use Rattle.graph_terms.specs.declared.verb.Access.{Access}
 use Rattle.graph_terms.specs.declared.why.Why.{Why}
 use Rattle.graph_terms.specs.declared.why.Why.TheVariants as why
 use Rattle.graph_terms.specs.declared.verb.Verb.{Verb}
-use Rattle.graph_terms.specs.declared.verb.Verb.TheVariants.{Merge, MergeIgnore, Phase, Arrive, Acquire}
+use Rattle.graph_terms.specs.declared.verb.Verb.TheVariants.{Merge, MergeIgnore, Phase, Arrive, Acquire, Call}
+use Rattle.graph_terms.specs.declared.verb.Mode.{Mode}
 use Rattle.graph_terms.specs.declared.table.Place.{Place}
 use Rattle.graph_terms.specs.declared.table.Place.TheVariants as places
 use Rattle.graph_terms.specs.Table.{Placed, kind_takes_on, verb_kind, verb_placed, any_placed}
 use Rattle.graph_terms.specs.Name.{is_name_in}
-use Rattle.graph_terms.specs.Graph.{GraphValue, decl_name, named_spaces, columns, locks, barriers, space_at, column_space, line_passes, is_user, is_phase, is_acquire, is_release_of, ends_user, arrivals, barrier_count, verb_at}
+use Rattle.graph_terms.specs.Graph.{GraphValue, decl_name, is_call, named_spaces, columns, data_columns, locks, barriers, space_at, column_space, data_space, line_passes, is_user, is_phase, is_acquire, is_release_of, ends_user, arrivals, barrier_count, verb_at}
 use Rattle.graph_terms.specs.declared.decl.ColumnInfo.{ColumnInfo}
 use Rattle.graph_terms.specs.Edges.{edges}
-use Rattle.graph_terms.specs.Access.{verb_accesses}
+use Rattle.graph_terms.specs.Access.{verb_accesses, call_accesses, is_read, is_reduction}
 use Rattle.graph_terms.specs.Spelling.{head}
 
 -- the first reason whose test passes
@@ -60,6 +61,11 @@ abbrev pub is_inst : Decl → Bool
 is_inst (Inst name space fields) = true
 is_inst _ = false
 
+-- data of the host
+abbrev pub is_data : Decl → Bool
+is_data (Data name space fields) = true
+is_data _ = false
+
 -- a declared space has more intervals or points than the format allows
 abbrev pub is_large : Format → Decl → Bool
 is_large f (Space name space) = nat_lt (limits f).space.intervals (length space) || nat_lt (limits f).space.points (space_size space)
@@ -71,20 +77,28 @@ has_many_spaces g = nat_lt MAX_SPACES (length (named_spaces g)) && nat_lt MAX_TE
 
 -- a quantity of a graph is above the greatest value of its format
 abbrev pub is_beyond : GraphValue → Bool
-is_beyond g = nat_lt (limits g.format).text (length (head g)) || (has_many_spaces g || (nat_lt (limits g.format).insts (length (filter is_inst g.decls)) || (nat_lt (limits g.format).columns (length (columns g))
+is_beyond g = nat_lt (limits g.format).text (length (head g)) || (has_many_spaces g || (nat_lt (limits g.format).insts (length (filter is_inst g.decls)) || (nat_lt (limits g.format).columns (length (columns g) + length (data_columns g))
     || (nat_lt (limits g.format).cells (cell_count g) || (nat_lt (limits g.format).locks (length (locks g)) || (nat_lt (limits g.format).barriers (length (barriers g))
     || (nat_lt (limits g.format).lines (length g.lines) || nat_lt (limits g.format).edges (length (edges g)))))))))
 
 abbrev pub decl_repeats : Decl → Bool
 decl_repeats (Inst name space fields) = repeats bytes_eq fields
+decl_repeats (Data name space fields) = repeats bytes_eq fields
 decl_repeats _ = false
 
 abbrev pub decl_unknown : GraphValue → Decl → Bool
 decl_unknown g (Inst name space fields) = nat_le (length (named_spaces g)) space
+decl_unknown g (Data name space fields) = nat_le (length (named_spaces g)) space
 decl_unknown g _ = false
+
+-- a declaration that the format has not
+abbrev pub decl_lacks : Format → Decl → Bool
+decl_lacks f (Data name space fields) = not (has_since Three f)
+decl_lacks f _ = false
 
 abbrev pub decl_misnumbered : Format → Decl → Bool
 decl_misnumbered f (Inst name space fields) = nat_lt (length fields) 1
+decl_misnumbered f (Data name space fields) = nat_lt (length fields) 1
 decl_misnumbered f (Barrier name count op first) = nat_lt count 1 || nat_lt (limits f).count count
 decl_misnumbered f _ = false
 
@@ -93,6 +107,7 @@ abbrev pub decl_tests : GraphValue → Decl → List (Bool × Why)
 decl_tests g d =
     (is_used g (decl_name d) || decl_repeats d, why.Twice)
     ∷ (decl_unknown g d, why.Unknown)
+    ∷ (decl_lacks g.format d, why.Kind)
     ∷ (decl_misnumbered g.format d, why.Number)
     ∷ (is_large g.format d || is_beyond (with_decl g d), why.Limit)
     ∷ []
@@ -128,6 +143,10 @@ named_lines v = filter_map (λ (p : Placed). named_line p.0 p.1) (verb_placed v)
 abbrev pub access_unknown : GraphValue → Access → Bool
 access_unknown g a = nat_le (length (columns g)) a.column || nat_le (length (named_spaces g)) a.space
 
+-- the same of an access of a call
+abbrev pub data_unknown : GraphValue → Access → Bool
+data_unknown g a = nat_le (length (data_columns g)) a.column || nat_le (length (named_spaces g)) a.space
+
 -- a barrier or a reservation whose number is out of range
 abbrev pub place_unknown : GraphValue → Place → ℕ → Bool
 place_unknown g places.Barrier n = nat_le (length (barriers g)) n
@@ -138,7 +157,7 @@ abbrev pub verb_unknown : GraphValue → Verb → Bool
 verb_unknown g v = any_placed (place_unknown g) (verb_placed v)
 
 abbrev pub line_unknown : GraphValue → Line → Bool
-line_unknown g l = list_any (λ i. nat_le (length g.lines) i) (named_lines l.verb ++ l.on) || (verb_unknown g l.verb || list_any (access_unknown g) (verb_accesses l.verb))
+line_unknown g l = list_any (λ i. nat_le (length g.lines) i) (named_lines l.verb ++ l.on) || (verb_unknown g l.verb || (list_any (access_unknown g) (verb_accesses l.verb) || list_any (data_unknown g) (call_accesses l.verb)))
 
 -- a named line is of another kind than its place takes
 abbrev pub place_unlike : GraphValue → Place → ℕ → Bool
@@ -150,9 +169,9 @@ place_unlike g _ n = false
 abbrev pub verb_unlike : GraphValue → Verb → Bool
 verb_unlike g v = any_placed (place_unlike g) (verb_placed v)
 
--- a verb that takes no precondition
+-- a verb that takes no precondition; of those without a kind, calls take one and merges don't
 abbrev pub takes_no_on : Verb → Bool
-takes_no_on v = not (option_map_or kind_takes_on (verb_kind v) false)
+takes_no_on v = not (option_map_or kind_takes_on (verb_kind v) (is_call v))
 
 -- events behind `on` of a verb that takes none, or several of them, which format 3 brought
 abbrev pub on_unlike : Format → Verb → List ℕ → Bool
@@ -161,6 +180,7 @@ on_unlike f v on = (takes_no_on v && nat_lt 0 (length on)) || (not (has_since Th
 -- a verb that the format has not
 abbrev pub format_lacks : Format → Verb → Bool
 format_lacks f (Acquire lock shared) = shared && not (has_since Two f)
+format_lacks f (Call call) = not (has_since Three f)
 format_lacks f _ = false
 
 -- the most that one arrival may count for
@@ -168,16 +188,33 @@ abbrev pub most_weight : Format → ℕ
 most_weight One = 1
 most_weight f = (limits f).count
 
--- a merge of no events, or a weight that the format has not
+-- a merge of no events, a weight that the format has not, or more values than a call takes
 abbrev pub verb_misnumbered : Format → Verb → Bool
 verb_misnumbered f (Merge events) = nat_lt (length events) 1
 verb_misnumbered f (MergeIgnore events) = nat_lt (length events) 1
 verb_misnumbered f (Arrive phase value weight) = nat_lt weight 1 || nat_lt (most_weight f) weight
+verb_misnumbered f (Call call) = nat_lt MAX_CALL_VALUES (length call.values)
 verb_misnumbered f _ = false
 
 -- the points of an access do not all lie in its column
 abbrev pub access_outside : GraphValue → Access → Bool
 access_outside g a = not (list_all (has_point (column_space g a.column)) (points (space_at g a.space)))
+
+-- the same of an access of a call
+abbrev pub data_outside : GraphValue → Access → Bool
+data_outside g a = not (list_all (has_point (data_space g a.column)) (points (space_at g a.space)))
+
+-- two accesses of one call may meet: one of them only reads, and none reduces
+abbrev pub may_meet : Mode → Mode → Bool
+may_meet m n = (is_read m || is_read n) && not (is_reduction m || is_reduction n)
+
+-- two accesses of one call that meet and may not
+abbrev pub accesses_clash : GraphValue → Access → Access → Bool
+accesses_clash g a b = nat_eq a.column b.column && (not (may_meet a.mode b.mode) && list_any (has_point (space_at g a.space)) (points (space_at g b.space)))
+
+-- two accesses of a call clash, of those that are compared
+abbrev pub verb_meets : GraphValue → Verb → Bool
+verb_meets g v = repeats (accesses_clash g) (take MAX_COMPARED_ACCESSES (call_accesses v))
 
 abbrev pub barrier_of_phase : Verb → ℕ
 barrier_of_phase (Phase b) = b
@@ -202,6 +239,10 @@ merged_events _ = []
 abbrev pub names_many : Format → Verb → List ℕ → Bool
 names_many f v on = nat_lt (limits f).events (length (merged_events v)) || nat_lt (limits f).events (length on)
 
+-- a call with too many accesses
+abbrev pub accesses_many : Verb → Bool
+accesses_many v = nat_lt MAX_CALL_ACCESSES (length (call_accesses v))
+
 -- the reasons that may refuse a line after this graph
 abbrev pub line_tests : GraphValue → Line → List (Bool × Why)
 line_tests g l =
@@ -209,9 +250,10 @@ line_tests g l =
     ∷ (line_unknown g l, why.Unknown)
     ∷ (verb_unlike g l.verb || (on_unlike g.format l.verb l.on || format_lacks g.format l.verb), why.Kind)
     ∷ (verb_misnumbered g.format l.verb, why.Number)
-    ∷ (list_any (access_outside g) (verb_accesses l.verb), why.Outside)
+    ∷ (list_any (access_outside g) (verb_accesses l.verb) || list_any (data_outside g) (call_accesses l.verb), why.Outside)
+    ∷ (verb_meets g l.verb, why.Meets)
     ∷ (arrives_late g l.verb, why.Arrivals)
-    ∷ (names_many g.format l.verb l.on || is_beyond (with_line g l), why.Limit)
+    ∷ (names_many g.format l.verb l.on || (accesses_many l.verb || is_beyond (with_line g l)), why.Limit)
     ∷ []
 
 -- the first of them
@@ -222,6 +264,7 @@ line_fault g l = first_reason (line_tests g l)
 abbrev pub IsDecl : Decl → Type 0
 IsDecl (Space name space) = IsTrue (is_name_in Three name) × IsSpace space
 IsDecl (Inst name space fields) = IsTrue (is_name_in Three name) × (space < 2 ^ 32) × AllByRecursion (λ f. IsTrue (is_name_in Three f)) fields
+IsDecl (Data name space fields) = IsTrue (is_name_in Three name) × (space < 2 ^ 32) × AllByRecursion (λ f. IsTrue (is_name_in Three f)) fields
 IsDecl (Lock name) = IsTrue (is_name_in Three name)
 IsDecl (Barrier name count op first) = IsTrue (is_name_in Three name) × (count < 2 ^ 32) × (first < 2 ^ 64)
 
@@ -229,6 +272,7 @@ IsDecl (Barrier name count op first) = IsTrue (is_name_in Three name) × (count 
 abbrev pub is_decl_named : Format → Decl → Bool
 is_decl_named f (Space name space) = is_name_in f name
 is_decl_named f (Inst name space fields) = is_name_in f name && list_all (is_name_in f) fields
+is_decl_named f (Data name space fields) = is_name_in f name && list_all (is_name_in f) fields
 is_decl_named f (Lock name) = is_name_in f name
 is_decl_named f (Barrier name count op first) = is_name_in f name
 
@@ -238,12 +282,18 @@ value_in _ n = None
 
 -- the values of a verb
 abbrev pub verb_values : Verb → List ℕ
+verb_values (Call call) = call.values
 verb_values v = filter_map (λ (p : Placed). value_in p.0 p.1) (verb_placed v)
 
 abbrev pub AreValues : List ℕ → Type 0
 AreValues [] = Unit {0}
 AreValues (n ∷ []) = n < 2 ^ 64
 AreValues (n ∷ m ∷ ms) = (n < 2 ^ 64) × AreValues (m ∷ ms)
+
+-- the word of a call is spelled as a name
+abbrev pub is_called : Verb → Bool
+is_called (Call call) = is_name_in Three call.word
+is_called v = true
 
 abbrev pub IsVerb : Verb → Type 0
 IsVerb v = AreValues (verb_values v)
@@ -252,6 +302,7 @@ IsVerb v = AreValues (verb_values v)
 pub record IsLine (l : Line) : Type 0 where
   pub named : IsTrue (is_name_in Three l.name)
   pub values : IsVerb l.verb
+  pub called : IsTrue (is_called l.verb)
 
 -- each declaration fits after those before it, and its names are names in the format
 abbrev pub DeclsFit : Format → List Decl → List Decl → Type 0

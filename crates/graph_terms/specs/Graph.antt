@@ -1,5 +1,5 @@
 -- What a graph is: its format, its declarations and its lines. Lines are numbered from 0, and so are the spaces,
--- the columns, the reservations and the barriers, each in the order of their declarations.
+-- the columns, the columns of data, the reservations and the barriers, each in the order of their declarations.
 use Rattle.std.specs.Prelude.{ℕ, ◌==◌, Bool, true, false, cond, not, nat_lt, sum_by, List, [], map, flat_map, filter_map, Option, Some, None, option_map, slice_get}
 use Rattle.std.specs.Option.{option_map_or}
 use Rattle.std.specs.List.{list_any}
@@ -8,10 +8,10 @@ pub use Rattle.graph_terms.specs.declared.decl.BarrierInfo.{BarrierInfo}
 use Rattle.graph_terms.specs.declared.format.Format.{Format}
 use Rattle.graph_terms.specs.declared.format.Format.TheVariants.{Two, Three}
 use Rattle.graph_terms.specs.declared.decl.Decl.{Decl}
-use Rattle.graph_terms.specs.declared.decl.Decl.TheVariants.{Space, Inst, Lock, Barrier}
+use Rattle.graph_terms.specs.declared.decl.Decl.TheVariants.{Space, Inst, Data, Lock, Barrier}
 use Rattle.graph_terms.specs.declared.verb.Line.{Line}
 use Rattle.graph_terms.specs.declared.verb.Verb.{Verb}
-use Rattle.graph_terms.specs.declared.verb.Verb.TheVariants.{User, Trigger, Cancel, MergeIgnore, Phase, Arrive, Acquire, Release}
+use Rattle.graph_terms.specs.declared.verb.Verb.TheVariants.{User, Trigger, Cancel, MergeIgnore, Phase, Arrive, Acquire, Release, Call}
 
 -- the format, and the declarations and the lines, in order
 pub record GraphValue : Type 0 where
@@ -36,6 +36,7 @@ upgraded g = written_in (upgraded_format g.format) g
 abbrev pub decl_name : Decl → List ℕ
 decl_name (Space name space) = name
 decl_name (Inst name space fields) = name
+decl_name (Data name space fields) = name
 decl_name (Lock name) = name
 decl_name (Barrier name count op first) = name
 
@@ -43,6 +44,7 @@ decl_name (Barrier name count op first) = name
 abbrev pub space_of : Decl → Option (List ℕ × List (ℕ × ℕ))
 space_of (Space name space) = Some (name, space)
 space_of (Inst name space fields) = None
+space_of (Data name space fields) = None
 space_of (Lock name) = None
 space_of (Barrier name count op first) = None
 
@@ -50,13 +52,23 @@ space_of (Barrier name count op first) = None
 abbrev pub columns_of : Decl → List ColumnInfo
 columns_of (Space name space) = []
 columns_of (Inst name space fields) = map (λ f. record { inst = name; field = f; space = space }) fields
+columns_of (Data name space fields) = []
 columns_of (Lock name) = []
 columns_of (Barrier name count op first) = []
+
+-- the columns of data
+abbrev pub data_columns_of : Decl → List ColumnInfo
+data_columns_of (Space name space) = []
+data_columns_of (Inst name space fields) = []
+data_columns_of (Data name space fields) = map (λ f. record { inst = name; field = f; space = space }) fields
+data_columns_of (Lock name) = []
+data_columns_of (Barrier name count op first) = []
 
 -- the name of a reservation
 abbrev pub lock_of : Decl → Option (List ℕ)
 lock_of (Space name space) = None
 lock_of (Inst name space fields) = None
+lock_of (Data name space fields) = None
 lock_of (Lock name) = Some name
 lock_of (Barrier name count op first) = None
 
@@ -64,15 +76,19 @@ lock_of (Barrier name count op first) = None
 abbrev pub barrier_of : Decl → Option BarrierInfo
 barrier_of (Space name space) = None
 barrier_of (Inst name space fields) = None
+barrier_of (Data name space fields) = None
 barrier_of (Lock name) = None
 barrier_of (Barrier name count op first) = Some (record { name = name; count = count; op = op; first = first })
 
--- the spaces, the columns, the reservations and the barriers of a graph
+-- the spaces, the columns of instances and of data, the reservations and the barriers of a graph
 abbrev pub named_spaces : GraphValue → List (List ℕ × List (ℕ × ℕ))
 named_spaces g = filter_map space_of g.decls
 
 abbrev pub columns : GraphValue → List ColumnInfo
 columns g = flat_map columns_of g.decls
+
+abbrev pub data_columns : GraphValue → List ColumnInfo
+data_columns g = flat_map data_columns_of g.decls
 
 abbrev pub locks : GraphValue → List (List ℕ)
 locks g = filter_map lock_of g.decls
@@ -87,6 +103,10 @@ space_at g s = option_map_or (λ x. x.1) (slice_get (named_spaces g) s) []
 -- the intervals of the space of the column of this number
 abbrev pub column_space : GraphValue → ℕ → List (ℕ × ℕ)
 column_space g c = option_map_or (λ x. space_at g x.space) (slice_get (columns g) c) []
+
+-- the intervals of the space of the column of data of this number
+abbrev pub data_space : GraphValue → ℕ → List (ℕ × ℕ)
+data_space g c = option_map_or (λ x. space_at g x.space) (slice_get (data_columns g) c) []
 
 -- what the line of this number does
 abbrev pub verb_at : GraphValue → ℕ → Option Verb
@@ -112,6 +132,10 @@ is_acquire _ = false
 abbrev pub is_merge_ignore : Verb → Bool
 is_merge_ignore (MergeIgnore events) = true
 is_merge_ignore _ = false
+
+abbrev pub is_call : Verb → Bool
+is_call (Call call) = true
+is_call _ = false
 
 -- a phase of this barrier
 abbrev pub is_phase_of : ℕ → Verb → Bool

@@ -2,7 +2,7 @@
 use Rattle.std.specs.Prelude.{◌≡◌, ℕ, true, Some, Bool, slice_get, ◌<◌, length, ◌⊎◌, false, List, Contains, None, ◌++◌, filter_map, flat_map, [], ◌∷◌, ◌≤◌, ◌+◌, ◌||◌, not, ◌↔◌, IsTrue, ◌-◌, nat_le, take, get_or, zip, slice_index, map}
 use Rattle.graph_terms.specs.declared.verb.Verb.{Verb}
 use Rattle.graph_terms.specs.declared.verb.Verb.TheVariants.{Acquire, Release, Phase, User, Arrive}
-use Rattle.graph_terms.specs.Graph.{upgraded_format, is_acquire_of, is_shared, is_release_of, GraphValue, verb_at, line_passes, is_phase, ends_user, never_comes_as, locks, space_of, named_spaces, space_at, barriers, columns_of, columns, is_user, column_space}
+use Rattle.graph_terms.specs.Graph.{upgraded_format, is_acquire_of, is_shared, is_release_of, GraphValue, verb_at, line_passes, is_phase, ends_user, never_comes_as, locks, space_of, named_spaces, space_at, barriers, columns_of, columns, is_user, column_space, data_columns_of, data_columns}
 use Rattle.graph_terms.specs.Reservations.{Acquires, Releases, both_shared}
 use Rattle.graph_terms.specs.declared.verb.Line.{Line}
 use Rattle.std.specs.List.{list_any}
@@ -162,6 +162,14 @@ SpacesOfColumnsDeclared = (fm : Format) (before ds : List Decl) → DeclsFit fm 
 -- the space of each column of a graph is declared
 abbrev pub SpaceOfColumnDeclared : Type 0
 SpaceOfColumnDeclared = (g : GraphValue) → IsGraph g → (c : ℕ) (x : ColumnInfo) → slice_get (columns g) c ≡ Some x → x.space < length (named_spaces g)
+
+-- the same of the columns of data
+abbrev pub SpacesOfDataDeclared : Type 0
+SpacesOfDataDeclared = (fm : Format) (before ds : List Decl) → DeclsFit fm before ds → (x : ColumnInfo) → Contains (flat_map data_columns_of ds) x →
+    x.space < length (filter_map space_of (before ++ ds))
+
+abbrev pub SpaceOfDataDeclared : Type 0
+SpaceOfDataDeclared = (g : GraphValue) → IsGraph g → (c : ℕ) (x : ColumnInfo) → slice_get (data_columns g) c ≡ Some x → x.space < length (named_spaces g)
 
 -- a graph without lines and a declaration that fits are a graph
 abbrev pub FittingDeclarationStays : Type 0

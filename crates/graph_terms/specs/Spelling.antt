@@ -1,5 +1,5 @@
 -- The one spelling of a graph's declarations and lines.
-use Rattle.std.specs.Prelude.{ℕ, List, [], ◌∷◌, ◌++◌, map, slice_get, codes, decimal}
+use Rattle.std.specs.Prelude.{ℕ, List, [], ◌∷◌, ◌++◌, map, flat_map, slice_get, codes, decimal}
 use Rattle.std.specs.Option.{option_map_or}
 use Rattle.std.specs.List.{join_with_byte}
 use Rattle.index_spaces.specs.declared.Op.{Op}
@@ -7,16 +7,20 @@ use Rattle.graph_terms.specs.declared.format.Format.{Format}
 use Rattle.graph_terms.specs.declared.format.Format.TheVariants.{One, Two, Three}
 use Rattle.index_spaces.specs.declared.Op.TheVariants.{Sum, Min, Max}
 use Rattle.graph_terms.specs.declared.decl.Decl.{Decl}
-use Rattle.graph_terms.specs.declared.decl.Decl.TheVariants.{Space, Inst, Lock, Barrier}
+use Rattle.graph_terms.specs.declared.decl.Decl.TheVariants.{Space, Inst, Data, Lock, Barrier}
 use Rattle.graph_terms.specs.declared.verb.Line.{Line}
 use Rattle.graph_terms.specs.declared.verb.Verb.{Verb}
-use Rattle.graph_terms.specs.declared.verb.Verb.TheVariants.{Merge, MergeIgnore}
+use Rattle.graph_terms.specs.declared.verb.Verb.TheVariants.{Merge, MergeIgnore, Call}
+use Rattle.graph_terms.specs.declared.verb.Access.{Access}
+use Rattle.graph_terms.specs.declared.verb.Mode.{Mode}
+use Rattle.graph_terms.specs.declared.verb.Mode.TheVariants as modes
+use Rattle.graph_terms.specs.declared.call.CallParts.{CallParts}
 use Rattle.graph_terms.specs.declared.table.Place.{Place}
 use Rattle.graph_terms.specs.declared.table.Place.TheVariants as places
 use Rattle.graph_terms.specs.declared.why.Why.{Why}
 use Rattle.graph_terms.specs.declared.why.Why.TheVariants as why
 use Rattle.graph_terms.specs.Table.{Placed, kind_words, verb_kind, verb_placed}
-use Rattle.graph_terms.specs.Graph.{GraphValue, named_spaces, columns, locks, barriers}
+use Rattle.graph_terms.specs.Graph.{GraphValue, named_spaces, columns, data_columns, locks, barriers}
 use Rattle.graph_terms.specs.declared.decl.ColumnInfo.{ColumnInfo}
 use Rattle.graph_terms.specs.declared.decl.BarrierInfo.{BarrierInfo}
 
@@ -30,6 +34,9 @@ space_name g s = option_map_or (λ (x : List ℕ × List (ℕ × ℕ)). x.0) (sl
 
 abbrev pub column_name : GraphValue → ℕ → List ℕ
 column_name g c = option_map_or (λ (x : ColumnInfo). x.inst ++ 46 ∷ x.field) (slice_get (columns g) c) []
+
+abbrev pub data_name : GraphValue → ℕ → List ℕ
+data_name g c = option_map_or (λ (x : ColumnInfo). x.inst ++ 46 ∷ x.field) (slice_get (data_columns g) c) []
 
 abbrev pub lock_name : GraphValue → ℕ → List ℕ
 lock_name g l = option_map_or (λ (x : List ℕ). x) (slice_get (locks g) l) []
@@ -57,6 +64,7 @@ comma_word pieces = join_with_byte 44 pieces
 abbrev pub decl_words : GraphValue → Decl → List (List ℕ)
 decl_words g (Space name space) = codes "space" ∷ name ∷ comma_word (map interval_word space) ∷ []
 decl_words g (Inst name space fields) = codes "inst" ∷ name ∷ space_name g space ∷ comma_word fields ∷ []
+decl_words g (Data name space fields) = codes "data" ∷ name ∷ space_name g space ∷ comma_word fields ∷ []
 decl_words g (Lock name) = codes "lock" ∷ name ∷ []
 decl_words g (Barrier name count op first) = codes "barrier" ∷ name ∷ decimal count ∷ op_word op ∷ decimal first ∷ []
 
@@ -77,9 +85,25 @@ place_word g (places.Column mode over) n = column_name g n
 abbrev pub placed_words : GraphValue → List Placed → List (List ℕ)
 placed_words g ps = map (λ (p : Placed). place_word g p.0 p.1) ps
 
+-- the word of how a call uses a column
+abbrev pub mode_word : Mode → List ℕ
+mode_word modes.Read = codes "read"
+mode_word modes.Write = codes "write"
+mode_word modes.Sum = codes "sum"
+mode_word modes.Least = codes "min"
+mode_word modes.Most = codes "max"
+
+-- the words of an access of a call
+abbrev pub access_words : GraphValue → Access → List (List ℕ)
+access_words g a = mode_word a.mode ∷ data_name g a.column ∷ space_name g a.space ∷ []
+
+abbrev pub call_words : GraphValue → CallParts → List (List ℕ)
+call_words g c = codes "call" ∷ c.word ∷ map decimal c.values ++ flat_map (access_words g) c.accesses
+
 abbrev pub verb_words : GraphValue → Verb → List (List ℕ)
 verb_words g (Merge events) = codes "merge" ∷ map (line_name g) events
 verb_words g (MergeIgnore events) = codes "mergei" ∷ map (line_name g) events
+verb_words g (Call call) = call_words g call
 verb_words g v = option_map_or kind_words (verb_kind v) [] ++ placed_words g (verb_placed v)
 
 -- `on` and the events behind it, where there are any
@@ -124,6 +148,7 @@ why_word why.Kind = codes "kind"
 why_word why.Number = codes "number"
 why_word why.Space = codes "space"
 why_word why.Outside = codes "outside"
+why_word why.Meets = codes "meets"
 why_word why.Arrivals = codes "arrivals"
 why_word why.Limit = codes "limit"
 why_word why.Missing = codes "missing"

@@ -104,7 +104,7 @@ each_in_order all n (p ∷ ps) = in_order all n p && each_in_order all (n + 1) p
 abbrev pub is_row : List Place → Bool
 is_row ps = nat_le (length ps) MOST_PLACES && (columns_first ps && each_in_order ps 0 ps)
 
--- a verb as its kind and a number for each place; merges, which name any number of lines, have no kind
+-- a verb as its kind and a number for each place; merges and calls, which take any number of words, have no kind
 abbrev pub kernel_kind : Kernel → Kind
 kernel_kind (Iota x s value) = kinds.Iota
 kernel_kind (Axpy x y s factor) = kinds.Axpy
@@ -144,6 +144,7 @@ verb_kind (verbs.Fill target space value) = Some kinds.Fill
 verb_kind (verbs.Copy source target space) = Some kinds.Copy
 verb_kind (verbs.Reduce op source target space) = Some (reduce_kind op)
 verb_kind (verbs.Task kernel) = Some (kernel_kind kernel)
+verb_kind (verbs.Call call) = None
 
 abbrev pub kernel_parts : Kernel → List ℕ
 kernel_parts (Iota x s value) = x ∷ s ∷ value ∷ []
@@ -177,6 +178,7 @@ verb_parts (verbs.Fill target space value) = target ∷ space ∷ value ∷ []
 verb_parts (verbs.Copy source target space) = source ∷ target ∷ space ∷ []
 verb_parts (verbs.Reduce op source target space) = source ∷ target ∷ space ∷ []
 verb_parts (verbs.Task kernel) = kernel_parts kernel
+verb_parts (verbs.Call call) = []
 
 -- the verb of a kind and a number for each of its places
 abbrev pub verb_of : Kind → List ℕ → Verb

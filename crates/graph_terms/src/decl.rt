@@ -23,6 +23,12 @@ pub enum Decl {
         space: u32,
         fields: NameList,
     },
+    /// Columns of which the host keeps the memory. Calls alone use them.
+    Data {
+        name: Name,
+        space: u32,
+        fields: NameList,
+    },
     Lock {
         name: Name,
     },
@@ -50,6 +56,10 @@ impl Decl {
                 let _space = *space;
                 are_names(fields.items.as_slice());
             }
+            Decl::Data { space, fields, .. } => {
+                let _space = *space;
+                are_names(fields.items.as_slice());
+            }
             Decl::Lock { .. } => {}
             Decl::Barrier { count, first, .. } => {
                 let _numbers = (*count, *first);
@@ -64,6 +74,7 @@ impl Decl {
         match self {
             Decl::Space { name, .. } => name,
             Decl::Inst { name, .. } => name,
+            Decl::Data { name, .. } => name,
             Decl::Lock { name } => name,
             Decl::Barrier { name, .. } => name,
         }
@@ -81,7 +92,7 @@ fn are_names(names: &[Name])
     }
 }
 
-/// A column: a field of an instance, over a declared space.
+/// A column: a field of an instance or of data, over a declared space.
 #[derive(Drop)]
 pub struct ColumnInfo {
     pub inst: Name,

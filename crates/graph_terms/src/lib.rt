@@ -3,6 +3,7 @@
 #![tactic(auto)]
 
 pub mod access;
+pub mod call;
 pub mod decl;
 pub mod format;
 pub mod found;

@@ -61,8 +61,18 @@ pub const MAX_EDGES: u64 = 65_536;
 /// The same in format 3.
 pub const MAX_EDGES_OF_THREE: u64 = 524_288;
 
-/// The most accesses of a line.
+/// The most columns with cells that a line accesses.
 pub const MOST_ACCESSES: u32 = 3;
+
+/// The most accesses of a call, and so of a line.
+pub const MAX_CALL_ACCESSES: u32 = 8;
+
+/// How many accesses of a call are compared with each other, to tell that two of them meet: more than
+/// a call may have, so that a line of a million is refused at once.
+pub const MAX_COMPARED_ACCESSES: u32 = 64;
+
+/// The most values of a call.
+pub const MAX_CALL_VALUES: u32 = 4;
 
 /// The most events that a merge names in formats 1 and 2.
 pub const MAX_EVENTS: u32 = 64;
@@ -83,7 +93,7 @@ pub struct Limits {
     pub text: u64,
     /// Instances.
     pub insts: u64,
-    /// Columns of all instances.
+    /// Columns of all instances and all data.
     pub columns: u64,
     /// Cells of all columns.
     pub cells: u64,

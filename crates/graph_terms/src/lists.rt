@@ -4,6 +4,7 @@ ghost use Rattle.std.specs.Prelude.{◌≡◌, ◌<◌, [], ◌∷◌, ◌++◌,
 
 use crate::name::Name;
 use crate::outcome::{Answer, End};
+use crate::verb::Access;
 use index_spaces::NoMemory;
 use index_spaces::column::Column;
 use index_spaces::room::{filled, push};
@@ -87,6 +88,12 @@ pub type NameList = ItemList<Name>;
 
 /// Numbers of lines, in order.
 pub type LineList = ItemList<u32>;
+
+/// Values, in order.
+pub type NumberList = ItemList<u64>;
+
+/// Accesses, in order.
+pub type AccessList = ItemList<Access>;
 
 /// How each line ended.
 pub type EndList = ItemList<End>;

@@ -93,7 +93,7 @@ pub enum Kernel {
     },
 }
 
-/// The kinds of operation lines but for merges, which name any number of lines.
+/// The kinds of operation lines but for merges and calls, which take any number of words.
 #[derive(Clone, Copy, Debug, PartialEq, Eq)]
 pub enum Kind {
     User,
@@ -362,7 +362,7 @@ impl Verb {
     ghost use Rattle.std.specs.Prelude.{◌≡◌};
     ghost use Rattle.graph_terms.specs.Table.{verb_kind, verb_parts, verb_places, verb_of, parts_from, parts_of};
 
-    /// Its kind. `None` exactly where it is a merge.
+    /// Its kind. `None` exactly where it is a merge or a call.
     pub fn kind(&self) -> Option<Kind>
         ensures { result ≡ verb_kind self.now }
     {
@@ -384,6 +384,7 @@ impl Verb {
             Verb::Reduce { op: Op::Min, .. } => Some(Kind::ReduceMin),
             Verb::Reduce { op: Op::Max, .. } => Some(Kind::ReduceMax),
             Verb::Task { kernel } => Some(kernel.kind()),
+            Verb::Call { .. } => None,
         }
     }
 
@@ -434,6 +435,7 @@ impl Verb {
                 space,
             } => named([source, target, space, 0, 0]),
             Verb::Task { kernel } => kernel.parts(),
+            Verb::Call { .. } => named([0, 0, 0, 0, 0]),
         }
     }
 

@@ -1,5 +1,8 @@
 //! Operation lines.
 
+ghost use Rattle.graph_terms.specs.Fits.{AreValues};
+
+use crate::call::Call;
 use crate::lists::{EventList, LineList};
 use crate::name::Name;
 pub use crate::table::Kernel;
@@ -22,6 +25,22 @@ impl Line {
     {
         let _ = self.name.bytes();
         let _ = self.verb.parts();
+        if let Verb::Call { call } = &self.verb {
+            let _ = call.word().bytes();
+            are_values(call.values().items.as_slice());
+        }
+    }
+}
+
+/// Each of these values is one.
+#[tactic(auto, using(crate::proofs::VerbFacts::one_more_value))]
+fn are_values(values: &[u64])
+    ensures { AreValues values.now }
+{
+    let mut rest = values;
+    while let [first, others @ ..] = rest {
+        let _value = *first;
+        rest = others;
     }
 }
 
@@ -77,6 +96,10 @@ pub enum Verb {
     },
     Task {
         kernel: Kernel,
+    },
+    /// A body of the host's own, over its own memory.
+    Call {
+        call: Call,
     },
 }
 

@@ -21,6 +21,8 @@ pub enum Why {
     Space,
     /// A space doesn't lie within that of a column.
     Outside,
+    /// Two accesses of a call are of one column and meet, and both change it or one of them reduces.
+    Meets,
     /// The phase has all its arrivals already.
     Arrivals,
     /// With this item a quantity passes its limit.
@@ -49,6 +51,7 @@ impl Why {
             Why::Number => "number",
             Why::Space => "space",
             Why::Outside => "outside",
+            Why::Meets => "meets",
             Why::Arrivals => "arrivals",
             Why::Limit => "limit",
             Why::Missing => "missing",

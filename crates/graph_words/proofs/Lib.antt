@@ -5,5 +5,6 @@ pub mod NameLists
 pub mod IntervalWords
 pub mod WordLists
 pub mod WholeText
+pub mod CallLists
 pub mod KnownItems
 pub mod Public

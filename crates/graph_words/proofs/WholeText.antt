@@ -1,6 +1,6 @@
 -- The text of a graph by the names of the whole graph: what a writer puts, line by line.
 use Rattle.std.proofs.Common.{◌≡◌, ℕ, zero, suc, ◌<◌, false, List, [], ◌∷◌, ◌++◌, length, map, refl, sym, ◌∙◌, ap, append_assoc, arith}
-use Rattle.std.specs.Prelude.{Option, filter_map, flat_map, zip, slice_get, codes}
+use Rattle.std.specs.Prelude.{Option, filter_map, flat_map, zip, slice_get, codes, decimal}
 use Rattle.std.specs.Option.{option_map_or}
 use Rattle.std.specs.List.{AllByRecursion}
 use Rattle.std.proofs.lemmas.Bool.{leb-false}
@@ -10,12 +10,13 @@ use Rattle.graph_terms.specs.declared.decl.Decl.{Decl}
 use Rattle.graph_terms.specs.declared.decl.Decl.TheVariants as decl
 use Rattle.graph_terms.specs.declared.verb.Line.{Line}
 use Rattle.graph_terms.specs.declared.verb.Verb.{Verb}
-use Rattle.graph_terms.specs.declared.verb.Verb.TheVariants.{Merge, MergeIgnore}
+use Rattle.graph_terms.specs.declared.verb.Verb.TheVariants.{Merge, MergeIgnore, Call}
+use Rattle.graph_terms.specs.declared.verb.Access.{Access}
 use Rattle.graph_terms.specs.declared.table.Place.{Place}
 use Rattle.graph_terms.specs.declared.table.Place.TheVariants.{User, Phase, Acquire}
 use Rattle.graph_terms.specs.Table.{Placed, kind_words, verb_kind, verb_places, verb_parts}
 use Rattle.graph_terms.specs.Graph.{GraphValue, space_of, named_spaces}
-use Rattle.graph_terms.specs.Spelling.{space_name, line_name, comma_word, spelled, decl_words, place_word, placed_words, verb_words, on_words, line_words, header, decls_text, lines_text, head}
+use Rattle.graph_terms.specs.Spelling.{space_name, line_name, comma_word, spelled, decl_words, place_word, placed_words, access_words, verb_words, on_words, line_words, header, decls_text, lines_text, head}
 use Rattle.graph_terms.specs.Fits.{decl_unknown, named_line, named_lines, DeclsFit, LinesFit, IsGraph}
 use Rattle.graph_words.specs.Text.{closing, text}
 use Rattle.graph_words.proofs.KnownItems.{known_decl_of, known_line_of}
@@ -35,6 +36,7 @@ space_kept fm ds es ks ls n h = ap (λ (o : Option (List ℕ × List (ℕ × ℕ
 -- the words of a declaration stay the same when items follow
 pub decl_words_kept : (fm : Format) (ds es : List Decl) (ks ls : List Line) (d : Decl) → decl_unknown (graph_of fm ds ks) d ≡ false → decl_words (graph_of fm ds ks) d ≡ decl_words (graph_of fm (ds ++ es) ls) d
 decl_words_kept fm ds es ks ls (decl.Inst name space fields) h = ap (λ x. codes "inst" ∷ name ∷ x ∷ comma_word fields ∷ []) (space_kept fm ds es ks ls space (leb-false (length (named_spaces (graph_of fm ds ks))) space h))
+decl_words_kept fm ds es ks ls (decl.Data name space fields) h = ap (λ x. codes "data" ∷ name ∷ x ∷ comma_word fields ∷ []) (space_kept fm ds es ks ls space (leb-false (length (named_spaces (graph_of fm ds ks))) space h))
 decl_words_kept fm ds es ks ls (decl.Space name space) h = refl
 decl_words_kept fm ds es ks ls (decl.Lock name) h = refl
 decl_words_kept fm ds es ks ls (decl.Barrier name count o first) h = refl
@@ -54,9 +56,14 @@ number_kept fm ds ks ls (Phase ∷ ps) (n ∷ ns) h = ap (λ w. w ∷ placed_wor
 number_kept fm ds ks ls (Acquire ∷ ps) (n ∷ ns) h = ap (λ w. w ∷ placed_words (graph_of fm ds ks) (zip ps ns)) (line_kept fm ds ks ls n h.0) ∙ ap (λ ws. line_name (graph_of fm ds (ks ++ ls)) n ∷ ws) (number_kept fm ds ks ls ps ns h.1)
 number_kept fm ds ks ls (p ∷ ps) (n ∷ ns) h = ap (λ ws. place_word (graph_of fm ds ks) p n ∷ ws) (number_kept fm ds ks ls ps ns h)
 
+accesses_kept : (fm : Format) (ds : List Decl) (ks ls : List Line) (xs : List Access) → flat_map (access_words (graph_of fm ds ks)) xs ≡ flat_map (access_words (graph_of fm ds (ks ++ ls))) xs
+accesses_kept fm ds ks ls [] = refl
+accesses_kept fm ds ks ls (x ∷ xs) = ap (λ ws. access_words (graph_of fm ds ks) x ++ ws) (accesses_kept fm ds ks ls xs)
+
 verb_kept : (fm : Format) (ds : List Decl) (ks ls : List Line) (v : Verb) → AllByRecursion (λ i. i < length ks) (named_lines v) → verb_words (graph_of fm ds ks) v ≡ verb_words (graph_of fm ds (ks ++ ls)) v
 verb_kept fm ds ks ls (Merge events) h = ap (λ xs. codes "merge" ∷ xs) (lines_kept fm ds ks ls events h)
 verb_kept fm ds ks ls (MergeIgnore events) h = ap (λ xs. codes "mergei" ∷ xs) (lines_kept fm ds ks ls events h)
+verb_kept fm ds ks ls (Call call) h = ap (λ ws. codes "call" ∷ call.word ∷ map decimal call.values ++ ws) (accesses_kept fm ds ks ls call.accesses)
 verb_kept fm ds ks ls v h = ap (λ xs. option_map_or kind_words (verb_kind v) [] ++ xs) (number_kept fm ds ks ls (verb_places v) (verb_parts v) h)
 
 on_kept : (fm : Format) (ds : List Decl) (ks ls : List Line) (on : List ℕ) → AllByRecursion (λ i. i < length ks) on → on_words (graph_of fm ds ks) on ≡ on_words (graph_of fm ds (ks ++ ls)) on

@@ -1,5 +1,5 @@
 -- A line of text with its words in their places, before the names in it are looked up.
-use Rattle.std.specs.Prelude.{ℕ, ◌+◌, ◌==◌, nat_le, Bool, true, cond, ◌&&◌, ◌||◌, List, [], ◌∷◌, ◌++◌, length, map, drop, find, zip, ◌⊎◌, Option, Some, None, option_map, unwrap_or, slice_index_or, codes, position}
+use Rattle.std.specs.Prelude.{ℕ, ◌+◌, ◌==◌, nat_le, Bool, true, false, cond, ◌&&◌, ◌||◌, List, [], ◌∷◌, ◌++◌, length, map, flat_map, drop, find, zip, ◌⊎◌, Option, Some, None, option_map, unwrap_or, slice_index_or, codes, position}
 use Rattle.std.specs.List.{starts_with, list_all}
 use Rattle.std.specs.Str.{bytes_eq}
 use Rattle.std.proofs.Common.{inl, inr}
@@ -9,7 +9,8 @@ use Rattle.graph_terms.specs.declared.decl.Decl.{Decl}
 use Rattle.graph_terms.specs.declared.decl.Decl.TheVariants as decl
 use Rattle.graph_terms.specs.declared.verb.Line.{Line}
 use Rattle.graph_terms.specs.declared.verb.Verb.{Verb}
-use Rattle.graph_terms.specs.declared.verb.Verb.TheVariants.{Merge, MergeIgnore}
+use Rattle.graph_terms.specs.declared.verb.Verb.TheVariants.{Merge, MergeIgnore, Call}
+use Rattle.graph_terms.specs.declared.verb.Access.{Access}
 use Rattle.graph_terms.specs.declared.table.Kind.{Kind}
 use Rattle.graph_terms.specs.declared.table.TheConstants.{KINDS}
 use Rattle.graph_terms.specs.declared.table.Place as table
@@ -20,12 +21,14 @@ use Rattle.graph_terms.specs.Format.{has_since}
 use Rattle.graph_terms.specs.Table.{kind_words, kind_places, kind_takes_on, kind_since, verb_of}
 use Rattle.graph_terms.specs.declared.decl.ColumnInfo.{ColumnInfo}
 use Rattle.graph_terms.specs.declared.decl.BarrierInfo.{BarrierInfo}
-use Rattle.graph_terms.specs.Graph.{GraphValue, named_spaces, columns, locks, barriers}
+use Rattle.graph_terms.specs.Graph.{GraphValue, named_spaces, columns, data_columns, locks, barriers}
+use Rattle.graph_terms.specs.Access.{access}
 use Rattle.graph_words.specs.Words.{pieces, value_of, count_of, weight_of, intervals_of}
+use Rattle.graph_words.specs.Calls.{AccessWords, CallWords, call_words}
 
 -- what stands in the place of a word
 pub data Place : Type 0 where
-  NewName SpaceName LockName BarrierName UserName PhaseName AcquireName EventName Column Fields Value Times Weight Shared Count Intervals : Place
+  NewName SpaceName LockName BarrierName UserName PhaseName AcquireName EventName CallName Column DataColumn Fields Value Times Weight Shared Count Intervals : Place
 
 -- a word in its place
 abbrev pub Placed : Type 0
@@ -53,6 +56,10 @@ abbrev pub column_number_of : GraphValue → List (List ℕ) → ℕ
 column_number_of g (inst ∷ field ∷ []) = unwrap_or (position (λ (x : ColumnInfo). bytes_eq x.inst inst && bytes_eq x.field field) (columns g)) 0
 column_number_of g _ = 0
 
+abbrev pub data_number_of : GraphValue → List (List ℕ) → ℕ
+data_number_of g (owner ∷ field ∷ []) = unwrap_or (position (λ (x : ColumnInfo). bytes_eq x.inst owner && bytes_eq x.field field) (data_columns g)) 0
+data_number_of g _ = 0
+
 -- the number that a word stands for in its place
 abbrev pub number_in_place : GraphValue → Place → List ℕ → ℕ
 number_in_place g SpaceName w = space_number g w
@@ -63,6 +70,7 @@ number_in_place g PhaseName w = line_number g w
 number_in_place g AcquireName w = line_number g w
 number_in_place g EventName w = line_number g w
 number_in_place g Column w = column_number_of g (pieces 46 w)
+number_in_place g DataColumn w = data_number_of g (pieces 46 w)
 number_in_place g Value w = unwrap_or (value_of w) 0
 number_in_place g Weight w = unwrap_or (weight_of g.format w) 0
 number_in_place g Count w = unwrap_or (count_of g.format w) 0
@@ -97,7 +105,7 @@ pub record Form : Type 0 where
 abbrev pub form_of : Kind → Form
 form_of kind = record { words = kind_words kind; places = map as_place (kind_places kind); takes_on = kind_takes_on kind; since = kind_since kind; verb = verb_of kind }
 
--- the forms of operation lines but for merges
+-- the forms of operation lines but for merges and calls
 abbrev pub forms : List Form
 forms = map form_of KINDS
 
@@ -165,13 +173,41 @@ abbrev pub merge_draft : GraphValue → List ℕ → (List ℕ → Verb) → Lis
 merge_draft g name verb [] = None
 merge_draft g name verb (e ∷ es) = Some (merge_with g name verb (e ∷ es))
 
+-- the words of the accesses of a call in their places
+abbrev pub accesses_placed : List AccessWords → List Placed
+accesses_placed xs = flat_map (λ (a : AccessWords). (DataColumn, a.column) ∷ (SpaceName, a.space) ∷ []) xs
+
+-- words, each in the place of a value
+abbrev pub values_placed : List (List ℕ) → List Placed
+values_placed ws = map (λ w. (Value, w)) ws
+
+-- the access that words spell
+abbrev pub access_spelled : GraphValue → AccessWords → Access
+access_spelled g a = access (data_number_of g (pieces 46 a.column)) (space_number g a.space) a.mode
+
+-- the words of a call behind the fixed one
+abbrev pub call_with : GraphValue → List ℕ → CallWords → Draft
+call_with g name c = record {
+  placed = (NewName, name) ∷ (CallName, c.word) ∷ values_placed c.values ++ (accesses_placed c.accesses ++ events_placed c.events);
+  item = inr (record {
+    name = name;
+    verb = Call (record { word = c.word; values = map (λ w. unwrap_or (value_of w) 0) c.values; accesses = map (access_spelled g) c.accesses });
+    on = map (line_number g) c.events;
+  });
+}
+
+-- a call, which format 3 brought
+abbrev pub call_draft : GraphValue → List ℕ → List (List ℕ) → Option Draft
+call_draft g name ws = cond (has_since Three g.format) (option_map (call_with g name) (call_words ws)) None
+
 -- an operation line with this name and these words behind the sign
 abbrev pub line_draft : GraphValue → List ℕ → List (List ℕ) → Option Draft
 line_draft g name [] = None
 line_draft g name (w ∷ ws) =
     cond (same_word w (codes "merge")) (merge_draft g name Merge ws)
     (cond (same_word w (codes "mergei")) (merge_draft g name MergeIgnore ws)
-    (option_map (λ f. form_draft g name (drop (length f.words) (w ∷ ws)) f) (find (is_of_form g.format (w ∷ ws)) forms)))
+    (cond (same_word w (codes "call")) (call_draft g name ws)
+    (option_map (λ f. form_draft g name (drop (length f.words) (w ∷ ws)) f) (find (is_of_form g.format (w ∷ ws)) forms))))
 
 -- a declaration by its words
 abbrev pub space_with : List ℕ → List ℕ → Draft
@@ -181,12 +217,25 @@ abbrev pub space_draft : GraphValue → List (List ℕ) → Option Draft
 space_draft g (name ∷ intervals ∷ []) = Some (space_with name intervals)
 space_draft g _ = None
 
-abbrev pub inst_with : GraphValue → List ℕ → List ℕ → List ℕ → Draft
-inst_with g name space fields = record { placed = (NewName, name) ∷ (SpaceName, space) ∷ (Fields, fields) ∷ []; item = inl (decl.Inst name (space_number g space) (pieces 44 fields)) }
+-- the declaration of an instance, or of data where the host keeps its memory
+abbrev pub columns_decl : Bool → List ℕ → ℕ → List (List ℕ) → Decl
+columns_decl false name space fields = decl.Inst name space fields
+columns_decl true name space fields = decl.Data name space fields
+
+abbrev pub columns_with : GraphValue → Bool → List ℕ → List ℕ → List ℕ → Draft
+columns_with g hosted name space fields = record {
+  placed = (NewName, name) ∷ (SpaceName, space) ∷ (Fields, fields) ∷ [];
+  item = inl (columns_decl hosted name (space_number g space) (pieces 44 fields));
+}
 
 abbrev pub inst_draft : GraphValue → List (List ℕ) → Option Draft
-inst_draft g (name ∷ space ∷ fields ∷ []) = Some (inst_with g name space fields)
+inst_draft g (name ∷ space ∷ fields ∷ []) = Some (columns_with g false name space fields)
 inst_draft g _ = None
+
+-- data, which format 3 brought
+abbrev pub data_draft : GraphValue → List (List ℕ) → Option Draft
+data_draft g (name ∷ space ∷ fields ∷ []) = cond (has_since Three g.format) (Some (columns_with g true name space fields)) None
+data_draft g _ = None
 
 abbrev pub lock_with : List ℕ → Draft
 lock_with name = record { placed = (NewName, name) ∷ []; item = inl (decl.Lock name) }
@@ -215,7 +264,8 @@ decl_draft g (w ∷ ws) =
     cond (same_word w (codes "space")) (space_draft g ws)
     (cond (same_word w (codes "inst")) (inst_draft g ws)
     (cond (same_word w (codes "lock")) (lock_draft g ws)
-    (cond (same_word w (codes "barrier")) (barrier_draft g ws) None)))
+    (cond (same_word w (codes "barrier")) (barrier_draft g ws)
+    (cond (same_word w (codes "data")) (data_draft g ws) None))))
 
 -- a declaration may not stand after an operation line
 abbrev pub decl_draft_after : GraphValue → List Line → List (List ℕ) → Option Draft

@@ -2,6 +2,7 @@
 //! line by its words, and what words spell.
 #![tactic(auto)]
 
+pub mod calls;
 pub mod comments;
 pub mod cuts;
 pub mod intervals;

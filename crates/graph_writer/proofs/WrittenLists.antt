@@ -1,6 +1,6 @@
 -- Lists whose texts are written one after another.
 use Rattle.std.proofs.Common.{cond, ◌≡◌, ℕ, zero, suc, ◌+◌, ◌<◌, ◌≤◌, List, [], ◌∷◌, ◌++◌, length, drop, get_or, map, refl, sym, ◌∙◌, ap, append_assoc, append-nil, arith}
-use Rattle.std.specs.Prelude.{Some, zip, slice_get, slice_index_or, flat_map, codes}
+use Rattle.std.specs.Prelude.{Some, zip, slice_get, slice_index_or, flat_map, codes, decimal}
 use Rattle.std.specs.List.{join_with_byte}
 use Rattle.std.proofs.lemmas.Bool.{ne_eqb}
 use Rattle.std.proofs.lemmas.Grind.{flat_map-append}
@@ -9,9 +9,11 @@ use Rattle.graph_terms.specs.declared.table.Parts.{Parts}
 use Rattle.graph_terms.specs.Graph.{GraphValue}
 use Rattle.graph_terms.specs.declared.table.Kind.{Kind}
 use Rattle.graph_terms.specs.declared.verb.Verb.{Verb}
+use Rattle.graph_terms.specs.declared.verb.Access.{Access}
+use Rattle.graph_terms.specs.declared.call.CallParts.{CallParts}
 use Rattle.std.specs.Option.{option_map_or}
 use Rattle.graph_terms.specs.Table.{kind_words, kind_places, verb_kind, verb_places, verb_parts, verb_placed, part_in, parts_from}
-use Rattle.graph_terms.specs.Spelling.{spelled, interval_word, comma_word, place_word, placed_words}
+use Rattle.graph_terms.specs.Spelling.{spelled, interval_word, comma_word, place_word, placed_words, access_words, call_words}
 use Rattle.graph_writer.specs.WrittenWords.{spaced, part_text, comma_before, comma_from}
 use Rattle.graph_words.specs.Text.{row_words}
 use Rattle.std.proofs.lemmas.Option.{none-some, same_Some}
@@ -71,8 +73,9 @@ comma_put f xs i d x s l e h = comma_item f xs i d l ∙ (ap (λ y. (comma_befor
 pub space_text : (name commas : List ℕ) → spelled (codes "space" ∷ name ∷ commas ∷ []) ≡ codes "space " ++ (name ++ (32 ∷ (commas ++ 10 ∷ [])))
 space_text name commas = ap (λ x. codes "space " ++ x) (append_assoc name (32 ∷ commas) (10 ∷ []))
 
-pub inst_text : (name space commas : List ℕ) → spelled (codes "inst" ∷ name ∷ space ∷ commas ∷ []) ≡ codes "inst " ++ (name ++ (32 ∷ (space ++ (32 ∷ (commas ++ 10 ∷ [])))))
-inst_text name space commas = ap (λ x. codes "inst " ++ x) (append_assoc name (32 ∷ (space ++ 32 ∷ commas)) (10 ∷ []) ∙ ap (λ x. name ++ 32 ∷ x) (append_assoc space (32 ∷ commas) (10 ∷ [])))
+columns_text : (first name space commas : List ℕ) → spelled (first ∷ name ∷ space ∷ commas ∷ []) ≡ first ++ (32 ∷ (name ++ (32 ∷ (space ++ (32 ∷ (commas ++ 10 ∷ []))))))
+columns_text first name space commas = append_assoc first (32 ∷ (name ++ 32 ∷ (space ++ 32 ∷ commas))) (10 ∷ [])
+    ∙ ap (λ x. first ++ 32 ∷ x) (append_assoc name (32 ∷ (space ++ 32 ∷ commas)) (10 ∷ []) ∙ ap (λ x. name ++ 32 ∷ x) (append_assoc space (32 ∷ commas) (10 ∷ [])))
 
 pub plain_text : (first : List ℕ) (ws : List (List ℕ)) → spelled (first ∷ ws) ≡ first ++ (spaced ws ++ 10 ∷ [])
 plain_text first ws = ap (λ x. x ++ 10 ∷ []) (joined 32 first ws) ∙ append_assoc first (spaced ws) (10 ∷ [])
@@ -92,6 +95,12 @@ pub front_two : (name space rest : List ℕ) → ((name ++ (32 ∷ (space ++ [])
 front_two name space rest = ap (λ s. ((name ++ (32 ∷ s)) ++ 32 ∷ []) ++ rest) (append-nil space)
     ∙ (append_assoc (name ++ (32 ∷ space)) (32 ∷ []) rest ∙ append_assoc name (32 ∷ space) (32 ∷ rest))
 
+-- the first word of an instance or of data, its name and its space, and what is put behind
+pub columns_front : (first name word space rest : List ℕ) → word ≡ space → (first ++ ((32 ∷ (name ++ (32 ∷ (word ++ [])))) ++ 32 ∷ [])) ++ rest ≡ first ++ (32 ∷ (name ++ (32 ∷ (space ++ (32 ∷ rest)))))
+columns_front first name word space rest e =
+    append_assoc first ((32 ∷ (name ++ (32 ∷ (word ++ [])))) ++ 32 ∷ []) rest
+    ∙ (ap (λ x. first ++ 32 ∷ x) (front_two name word rest) ∙ ap (λ s. first ++ (32 ∷ (name ++ (32 ∷ (s ++ (32 ∷ rest)))))) e)
+
 same_items : (ws : List (List ℕ)) → map (λ w. w) ws ≡ ws
 same_items [] = refl
 same_items (w ∷ ws) = ap (λ xs. w ∷ xs) (same_items ws)
@@ -99,8 +108,8 @@ same_items (w ∷ ws) = ap (λ xs. w ∷ xs) (same_items ws)
 pub space_line : (name : List ℕ) (is : List (ℕ × ℕ)) → codes "space " ++ (name ++ (32 ∷ (comma_from interval_word 0 is ++ 10 ∷ []))) ≡ spelled (codes "space" ∷ name ∷ comma_word (map interval_word is) ∷ [])
 space_line name is = ap (λ c. codes "space " ++ (name ++ (32 ∷ (c ++ 10 ∷ [])))) (commas interval_word is) ∙ sym (space_text name (comma_word (map interval_word is)))
 
-pub inst_line : (name space : List ℕ) (fields : List (List ℕ)) → codes "inst " ++ (name ++ (32 ∷ (space ++ (32 ∷ (comma_from (λ w. w) 0 fields ++ 10 ∷ []))))) ≡ spelled (codes "inst" ∷ name ∷ space ∷ comma_word fields ∷ [])
-inst_line name space fields = ap (λ c. codes "inst " ++ (name ++ (32 ∷ (space ++ (32 ∷ (c ++ 10 ∷ [])))))) (commas (λ w. w) fields ∙ ap comma_word (same_items fields)) ∙ sym (inst_text name space (comma_word fields))
+pub columns_line : (first name space : List ℕ) (fields : List (List ℕ)) → first ++ (32 ∷ (name ++ (32 ∷ (space ++ (32 ∷ (comma_from (λ w. w) 0 fields ++ 10 ∷ [])))))) ≡ spelled (first ∷ name ∷ space ∷ comma_word fields ∷ [])
+columns_line first name space fields = ap (λ c. first ++ (32 ∷ (name ++ (32 ∷ (space ++ (32 ∷ (c ++ 10 ∷ []))))))) (commas (λ w. w) fields ∙ ap comma_word (same_items fields)) ∙ sym (columns_text first name space (comma_word fields))
 
 -- what stands in places, from one of them on
 pub part_next : (g : GraphValue) (parts : Parts) (ps : List Place) (i n : ℕ) (d : Place) → i < length ps →
@@ -115,6 +124,31 @@ part_over g parts [] zero n h = refl
 part_over g parts [] (suc i) n h = refl
 part_over g parts (p ∷ ps) zero n h = absurd (omega arith)
 part_over g parts (p ∷ ps) (suc i) n h = part_over g parts ps i n (omega arith)
+
+-- the words of a call, by those of its values and of its accesses
+accesses_text : (g : GraphValue) (xs : List Access) → spaced (flat_map (access_words g) xs) ≡ flat_map (λ a. spaced (access_words g a)) xs
+accesses_text g [] = refl
+accesses_text g (x ∷ xs) = flat_map-append (λ w. 32 ∷ w) (access_words g x) (flat_map (access_words g) xs) ∙ ap (λ ys. spaced (access_words g x) ++ ys) (accesses_text g xs)
+
+call_text : (g : GraphValue) (c : CallParts) → (32 ∷ (codes "call" ++ (32 ∷ (c.word ++ [])))) ++ (flat_map (λ n. 32 ∷ decimal n) c.values ++ flat_map (λ a. spaced (access_words g a)) c.accesses) ≡ spaced (call_words g c)
+call_text g c =
+    ap (λ w. (32 ∷ (codes "call" ++ (32 ∷ w))) ++ (flat_map (λ n. 32 ∷ decimal n) c.values ++ flat_map (λ a. spaced (access_words g a)) c.accesses)) (append-nil c.word)
+    ∙ ap (λ x. 32 ∷ (codes "call" ++ (32 ∷ (c.word ++ x)))) (ap (λ x. x ++ flat_map (λ a. spaced (access_words g a)) c.accesses) (sym (flat_mapped decimal c.values))
+    ∙ (ap (λ x. spaced (map decimal c.values) ++ x) (sym (accesses_text g c.accesses)) ∙ sym (flat_map-append (λ w. 32 ∷ w) (map decimal c.values) (flat_map (access_words g) c.accesses))))
+
+-- the same, by what the code has of it
+pub call_parts : (g : GraphValue) (c : CallParts) (w ns : List ℕ) (xs : List Access) → w ≡ c.word → ns ≡ c.values → xs ≡ c.accesses →
+    (32 ∷ (codes "call" ++ (32 ∷ (w ++ [])))) ++ (flat_map (λ n. 32 ∷ decimal n) ns ++ flat_map (λ a. spaced (access_words g a)) xs) ≡ spaced (call_words g c)
+call_parts g c w ns xs word values accesses =
+    ap (λ v. (32 ∷ (codes "call" ++ (32 ∷ (v ++ [])))) ++ (flat_map (λ n. 32 ∷ decimal n) ns ++ flat_map (λ a. spaced (access_words g a)) xs)) word
+    ∙ (ap (λ ms. (32 ∷ (codes "call" ++ (32 ∷ (c.word ++ [])))) ++ (flat_map (λ n. 32 ∷ decimal n) ms ++ flat_map (λ a. spaced (access_words g a)) xs)) values
+    ∙ (ap (λ ys. (32 ∷ (codes "call" ++ (32 ∷ (c.word ++ [])))) ++ (flat_map (λ n. 32 ∷ decimal n) c.values ++ flat_map (λ a. spaced (access_words g a)) ys)) accesses ∙ call_text g c))
+
+-- three words, each behind a space
+pub three_words : (a b c x y z : List ℕ) → a ≡ x → b ≡ y → c ≡ z → 32 ∷ (a ++ (32 ∷ (b ++ (32 ∷ (c ++ []))))) ≡ spaced (x ∷ y ∷ z ∷ [])
+three_words a b c x y z p q r =
+    ap (λ v. 32 ∷ (v ++ (32 ∷ (b ++ (32 ∷ (c ++ [])))))) p
+    ∙ (ap (λ v. 32 ∷ (x ++ (32 ∷ (v ++ (32 ∷ (c ++ [])))))) q ∙ ap (λ v. 32 ∷ (x ++ (32 ∷ (y ++ (32 ∷ (v ++ [])))))) r)
 
 -- the words of a verb by its row
 pub row_text : (g : GraphValue) (v : Verb) (k : Kind) (parts : Parts) (ws : List (List ℕ)) (ps : List Place) → Some k ≡ verb_kind v → ws ≡ kind_words k → ps ≡ kind_places k → parts_from 0 (verb_places v) parts ≡ verb_parts v →

@@ -1,6 +1,7 @@
 //! Writing the text of a graph, and the words of reports.
 #![tactic(auto)]
 
+mod calls;
 mod word_kinds;
 mod writer;
 

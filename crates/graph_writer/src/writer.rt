@@ -9,6 +9,7 @@ ghost use Rattle.graph_words.specs.Text.{text, row_words};
 ghost use Rattle.realm_io.specs.Written.{Writes};
 ghost use Rattle.graph_writer.specs.WrittenWords.{word_text, spaced, part_text, comma_before, comma_from};
 
+use crate::calls::put_call;
 use crate::word_kinds::{Word, line_word, op_word, part_word, put_behind, put_spaced, space_word};
 use graph_model::graph::Graph;
 use graph_terms::decl::Decl;
@@ -46,7 +47,7 @@ fn put_places<K: Sink>(
     Ok(())
 }
 
-/// Writes the words of a verb by its row, each behind a space. A merge has none.
+/// Writes the words of a verb by its row, each behind a space. A merge or a call has none.
 fn put_placed<K: Sink>(sink: &mut K, graph: &Graph, verb: &Verb) -> Result<(), WriteFault>
     ensures { Writes (K.state sink.old) (K.state sink.new) result (spaced (row_words graph.now verb.now)) }
 {
@@ -91,6 +92,7 @@ fn put_verb<K: Sink>(sink: &mut K, graph: &Graph, verb: &Verb) -> Result<(), Wri
         Verb::MergeIgnore { events } => {
             put_before_events(sink, graph, b"mergei", events.items.as_slice())
         }
+        Verb::Call { call } => put_call(sink, graph, call),
         _ => put_placed(sink, graph, verb),
     }
 }
@@ -169,20 +171,21 @@ fn put_space<K: Sink>(sink: &mut K, name: &Name, space: &Space) -> Result<(), Wr
     put_bytes(sink, b"\n")
 }
 
-/// Writes the line of an instance.
-fn put_inst<K: Sink>(
+/// Writes the line of an instance or of data, by its first word.
+fn put_columns<K: Sink>(
     sink: &mut K,
     graph: &Graph,
+    first: &'static [u8],
     name: &Name,
     space: u32,
     fields: &NameList,
 ) -> Result<(), WriteFault>
     ensures { Writes (K.state sink.old) (K.state sink.new) result
-        (codes "inst " ++ (name.now ++ (32 ∷ (space_name graph.now space ++ (32 ∷ (comma_from (λ w. w) 0 fields.now ++ 10 ∷ [])))))) }
+        (first.now ++ (32 ∷ (name.now ++ (32 ∷ (space_name graph.now space ++ (32 ∷ (comma_from (λ w. w) 0 fields.now ++ 10 ∷ []))))))) }
 {
     put_plain(
         sink,
-        b"inst",
+        first,
         &[Word::Name(*name), space_word(graph, space)],
         b" ",
     )?;
@@ -200,7 +203,12 @@ fn put_decl<K: Sink>(sink: &mut K, graph: &Graph, decl: &Decl) -> Result<(), Wri
             name,
             space,
             fields,
-        } => put_inst(sink, graph, name, *space, fields),
+        } => put_columns(sink, graph, b"inst", name, *space, fields),
+        Decl::Data {
+            name,
+            space,
+            fields,
+        } => put_columns(sink, graph, b"data", name, *space, fields),
         Decl::Lock { name } => put_plain(sink, b"lock", &[Word::Name(*name)], b"\n"),
         Decl::Barrier {
             name,

@@ -7,7 +7,7 @@ use Rattle.graph_terms.specs.declared.verb.Access.{Access}
 use Rattle.graph_terms.specs.declared.verb.Mode.{Mode}
 use Rattle.graph_terms.specs.declared.verb.Mode.TheVariants.{Read, Write, Sum, Least, Most}
 use Rattle.graph_terms.specs.Graph.{GraphValue, space_at}
-use Rattle.graph_terms.specs.Access.{accesses, is_read, is_reduction, modes_clash, Conflict}
+use Rattle.graph_terms.specs.Access.{all_accesses, is_read, is_reduction, modes_clash, Conflict}
 use Rattle.graph_meaning.specs.Effect.{Change, Effects, Cells, touches, Untouched}
 use Rattle.graph_meaning.specs.Laws.{FitsMode, KeepsToAccesses}
 use Rattle.basics.proofs.ListFacts.{some_passes, passes_some}
@@ -15,11 +15,11 @@ use Rattle.host_bodies.specs.Host.{covers, uses, may_change, reduces}
 
 -- an access of a line that covers a cell
 pub record Covered (g : GraphValue) (k c p : ℕ) (a : Access) : Type 0 where
-  pub listed : Contains (accesses g k) a
+  pub listed : Contains (all_accesses g k) a
   pub column : a.column ≡ c
   pub point : has_point (space_at g a.space) p ≡ true
 
-abbrev covered : {g : GraphValue} {k c p : ℕ} (a : Access) → Contains (accesses g k) a → covers g c p a ≡ true → Covered g k c p a
+abbrev covered : {g : GraphValue} {k c p : ℕ} (a : Access) → Contains (all_accesses g k) a → covers g c p a ≡ true → Covered g k c p a
 covered {g} {k} {c} {p} a listed e =
     let parts = and_parts (a.column == c) (has_point (space_at g a.space) p) e in
     record { listed = listed; column = eqb-true a.column c parts.0; point = parts.1 }
@@ -28,22 +28,22 @@ covers_by : {g : GraphValue} {k c p : ℕ} (a : Access) → Covered g k c p a �
 covers_by {g} {k} {c} {p} a v = ap (λ b. b && has_point (space_at g a.space) p) (eq-eqb a.column c v.column) ∙ v.point
 
 pub used_by : (g : GraphValue) (k c p : ℕ) → uses g k c p ≡ true → (a : Access) × Covered g k c p a
-used_by g k c p e = let s = some_passes (covers g c p) (accesses g k) e in (s.0, covered s.0 s.1 s.2)
+used_by g k c p e = let s = some_passes (covers g c p) (all_accesses g k) e in (s.0, covered s.0 s.1 s.2)
 
 pub changed_by : (g : GraphValue) (k c p : ℕ) → may_change g k c p ≡ true → (a : Access) × Covered g k c p a × (is_read a.mode ≡ false)
 changed_by g k c p e =
-    let s = some_passes (λ (a : Access). not (is_read a.mode) && covers g c p a) (accesses g k) e in
+    let s = some_passes (λ (a : Access). not (is_read a.mode) && covers g c p a) (all_accesses g k) e in
     let parts = and_parts (not (is_read s.0.mode)) (covers g c p s.0) s.2 in
     (s.0, covered s.0 s.1 parts.1, not-true (is_read s.0.mode) parts.0)
 
 pub is_used : (g : GraphValue) (k c p : ℕ) (a : Access) → Covered g k c p a → uses g k c p ≡ true
-is_used g k c p a v = passes_some (covers g c p) (accesses g k) a v.listed (covers_by a v)
+is_used g k c p a v = passes_some (covers g c p) (all_accesses g k) a v.listed (covers_by a v)
 
 pub is_changed : (g : GraphValue) (k c p : ℕ) (a : Access) → Covered g k c p a → is_read a.mode ≡ false → may_change g k c p ≡ true
-is_changed g k c p a v r = passes_some (λ (b : Access). not (is_read b.mode) && covers g c p b) (accesses g k) a v.listed (ap (λ b. not b && covers g c p a) r ∙ covers_by a v)
+is_changed g k c p a v r = passes_some (λ (b : Access). not (is_read b.mode) && covers g c p b) (all_accesses g k) a v.listed (ap (λ b. not b && covers g c p a) r ∙ covers_by a v)
 
 pub is_reduced : (g : GraphValue) (k c p : ℕ) (a : Access) → Covered g k c p a → is_reduction a.mode ≡ true → reduces g k c p ≡ true
-is_reduced g k c p a v r = passes_some (λ (b : Access). is_reduction b.mode && covers g c p b) (accesses g k) a v.listed (ap (λ b. b && covers g c p a) r ∙ covers_by a v)
+is_reduced g k c p a v r = passes_some (λ (b : Access). is_reduction b.mode && covers g c p b) (all_accesses g k) a v.listed (ap (λ b. b && covers g c p a) r ∙ covers_by a v)
 
 -- a cell that a line may change it uses
 pub changed_is_used : (g : GraphValue) (k c p : ℕ) → may_change g k c p ≡ true → uses g k c p ≡ true

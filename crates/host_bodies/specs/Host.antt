@@ -7,7 +7,7 @@ use Rattle.graph_terms.specs.declared.outcome.End.TheVariants.{Cancelled, Waitin
 use Rattle.graph_terms.specs.declared.verb.Access.{Access}
 use Rattle.graph_terms.specs.declared.verb.Edge.{Edge}
 use Rattle.graph_terms.specs.Graph.{GraphValue, space_at, never_comes}
-use Rattle.graph_terms.specs.Access.{accesses, is_read, is_reduction}
+use Rattle.graph_terms.specs.Access.{all_accesses, is_read, is_reduction}
 use Rattle.graph_terms.specs.Edges.{edges, edges_into}
 use Rattle.graph_meaning.specs.Effect.{Cells, Effects, cells_after}
 use Rattle.graph_meaning.specs.Evaluation.{Step, cancels, is_ended, step_by}
@@ -33,14 +33,14 @@ covers g c p a = (a.column == c) && has_point (space_at g a.space) p
 
 -- whether line k has an access of that cell, and one that does more than read it
 abbrev pub uses : GraphValue → ℕ → ℕ → ℕ → Bool
-uses g k c p = list_any (covers g c p) (accesses g k)
+uses g k c p = list_any (covers g c p) (all_accesses g k)
 
 abbrev pub may_change : GraphValue → ℕ → ℕ → ℕ → Bool
-may_change g k c p = list_any (λ a. not (is_read a.mode) && covers g c p a) (accesses g k)
+may_change g k c p = list_any (λ a. not (is_read a.mode) && covers g c p a) (all_accesses g k)
 
 -- whether line k has a reduction into that cell
 abbrev pub reduces : GraphValue → ℕ → ℕ → ℕ → Bool
-reduces g k c p = list_any (λ a. is_reduction a.mode && covers g c p a) (accesses g k)
+reduces g k c p = list_any (λ a. is_reduction a.mode && covers g c p a) (all_accesses g k)
 
 -- line i is due: it comes, it is not out and has not ended, and its sources have
 pub record IsDue (g : GraphValue) (h : HostRun) (i : ℕ) : Type 0 where

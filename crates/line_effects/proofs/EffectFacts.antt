@@ -12,7 +12,7 @@ use Rattle.graph_terms.specs.declared.format.Format.{Format}
 use Rattle.graph_terms.specs.declared.table.Kernel.{Kernel}
 use Rattle.graph_terms.specs.declared.table.Kernel.TheVariants.{Expect}
 use Rattle.graph_terms.specs.declared.verb.Verb.{Verb}
-use Rattle.graph_terms.specs.declared.verb.Verb.TheVariants.{User, Trigger, Cancel, Merge, MergeIgnore, Phase, Arrive, Acquire, Release, Fill, Copy, Reduce, Task}
+use Rattle.graph_terms.specs.declared.verb.Verb.TheVariants.{Fill, Copy, Reduce, Task}
 use Rattle.graph_terms.specs.Graph.{GraphValue, space_at, named_spaces, column_space}
 use Rattle.graph_terms.specs.declared.verb.Access.{Access}
 use Rattle.graph_meaning.specs.HeldCells.{HasCells, MakesChanges, HoldsOver, ColumnsOfChanges}
@@ -41,19 +41,11 @@ effect_is g i l cells h = ap (λ o. record { verdict = option_map_or (verb_verdi
 -- a line that is no fill, copy, reduction or task changes nothing
 nothing : (space : ℕ → List (ℕ × ℕ)) (cells : Cells) (v : Verb) → ((t s x : ℕ) → v ≡ Fill t s x → ⊥) → ((a b s : ℕ) → v ≡ Copy a b s → ⊥) → ((o : Op) (a b s : ℕ) → v ≡ Reduce o a b s → ⊥) → ((k : Kernel) → v ≡ Task k → ⊥) →
     (verb_verdict space cells v ≡ Fine) × (verb_changes space cells v ≡ [])
-nothing space cells User f c r t = (refl, refl)
-nothing space cells (Trigger u) f c r t = (refl, refl)
-nothing space cells (Cancel u) f c r t = (refl, refl)
-nothing space cells (Merge es) f c r t = (refl, refl)
-nothing space cells (MergeIgnore es) f c r t = (refl, refl)
-nothing space cells (Phase b) f c r t = (refl, refl)
-nothing space cells (Arrive q v w) f c r t = (refl, refl)
-nothing space cells (Acquire l s) f c r t = (refl, refl)
-nothing space cells (Release q) f c r t = (refl, refl)
 nothing space cells (Fill x s v) f c r t = absurd (f x s v refl)
 nothing space cells (Copy a b s) f c r t = absurd (c a b s refl)
 nothing space cells (Reduce o a b s) f c r t = absurd (r o a b s refl)
 nothing space cells (Task k) f c r t = absurd (t k refl)
+nothing space cells v f c r t = (refl, refl)
 
 pub unchanged : (g : GraphValue) (i : ℕ) (l : Line) (cells : Cells) (held : List (ℕ × ColumnValue)) → slice_get g.lines i ≡ Some l → ((t s x : ℕ) → l.verb ≡ Fill t s x → ⊥) → ((a b s : ℕ) → l.verb ≡ Copy a b s → ⊥) → ((o : Op) (a b s : ℕ) → l.verb ≡ Reduce o a b s → ⊥) → ((k : Kernel) → l.verb ≡ Task k → ⊥) → HeldShow g cells held →
     (Fine ≡ (effect g i cells).verdict) × HeldShow g (cells_after cells (effect g i cells).changes) held

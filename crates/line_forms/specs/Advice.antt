@@ -4,6 +4,8 @@ use Rattle.std.specs.Option.{option_map_or}
 use Rattle.std.specs.List.{concat, list_any, slice_index_or}
 use Rattle.std.specs.Str.{bytes_eq}
 use Rattle.graph_terms.specs.declared.format.Format.{Format}
+use Rattle.graph_terms.specs.declared.format.Format.TheVariants.{Three}
+use Rattle.graph_terms.specs.Format.{has_since}
 use Rattle.graph_terms.specs.declared.why.Why.{Why}
 use Rattle.graph_terms.specs.declared.why.Why.TheVariants as why
 use Rattle.graph_words.specs.Words.{pieces}
@@ -49,11 +51,11 @@ told_texts format ws fs = flat_map (told_text format ws) fs
 abbrev pub is_operation : List (List ℕ) → Bool
 is_operation ws = bytes_eq (slice_index_or ws 1 []) (codes "=")
 
-abbrev pub begins_declaration : List ℕ → Bool
-begins_declaration w = bytes_eq w (codes "space") || (bytes_eq w (codes "inst") || (bytes_eq w (codes "lock") || bytes_eq w (codes "barrier")))
+abbrev pub begins_declaration : Format → List ℕ → Bool
+begins_declaration format w = bytes_eq w (codes "space") || (bytes_eq w (codes "inst") || (bytes_eq w (codes "lock") || (bytes_eq w (codes "barrier") || (bytes_eq w (codes "data") && has_since Three format))))
 
-abbrev pub is_declared : List (List ℕ) → Bool
-is_declared ws = not (is_operation ws) && begins_declaration (slice_index_or ws 0 [])
+abbrev pub is_declared : Format → List (List ℕ) → Bool
+is_declared format ws = not (is_operation ws) && begins_declaration format (slice_index_or ws 0 [])
 
 -- the number of the word that would tell what the line is, and the words that may stand there
 abbrev pub key_place : List (List ℕ) → ℕ
@@ -66,17 +68,17 @@ vocabulary_of ws = cond (is_operation ws) (cond (bytes_eq (slice_index_or ws 2 [
 abbrev pub where_text : Bool → List ℕ → List ℕ → List ℕ
 where_text b t w = cond b (concat (t ∷ w ∷ codes "\n" ∷ [])) []
 
-abbrev pub is_verb : List ℕ → Bool
-is_verb w = list_any (bytes_eq w) (vocabulary_words Verbs)
+abbrev pub is_verb : Format → List ℕ → Bool
+is_verb format w = list_any (bytes_eq w) (vocabulary_words format Verbs)
 
-abbrev pub is_kernel : List ℕ → Bool
-is_kernel w = list_any (bytes_eq w) (vocabulary_words Kernels)
+abbrev pub is_kernel : Format → List ℕ → Bool
+is_kernel format w = list_any (bytes_eq w) (vocabulary_words format Kernels)
 
 -- a verb or a kernel that stands in the place of the other, or with which the line begins
-abbrev pub moved_text : Vocabulary → List ℕ → List ℕ
-moved_text Starts w = where_text (is_verb w) (codes "NAME = stands before ") w ++ where_text (is_kernel w) (codes "NAME = task stands before ") w
-moved_text Verbs w = where_text (is_kernel w) (codes "task stands before ") w
-moved_text Kernels w = where_text (is_verb w) (codes "no task stands before ") w
+abbrev pub moved_text : Format → Vocabulary → List ℕ → List ℕ
+moved_text format Starts w = where_text (is_verb format w) (codes "NAME = stands before ") w ++ where_text (is_kernel format w) (codes "NAME = task stands before ") w
+moved_text format Verbs w = where_text (is_kernel format w) (codes "task stands before ") w
+moved_text format Kernels w = where_text (is_verb format w) (codes "no task stands before ") w
 
 abbrev pub has_sign : List ℕ → Bool
 has_sign w = list_any (λ b. b == 61) w
@@ -86,19 +88,19 @@ abbrev pub joined_text : List (List ℕ) → List ℕ
 joined_text ws = cond (is_operation ws) [] (cond (has_sign (slice_index_or ws 0 []) || has_sign (slice_index_or ws 1 [])) (codes "= is a word: one space stands on each side of it\n") [])
 
 -- no line has this word in the place that tells what it is
-abbrev pub unknown_text : List (List ℕ) → List ℕ
-unknown_text ws =
+abbrev pub unknown_text : Format → List (List ℕ) → List ℕ
+unknown_text format ws =
     let key = slice_index_or ws (key_place ws) [] in
     let vocabulary = vocabulary_of ws in
-    vocabulary_text vocabulary ++ (nearest_text (nearest key (vocabulary_words vocabulary)) ++ (moved_text vocabulary key ++ joined_text ws))
+    vocabulary_text format vocabulary ++ (nearest_text (nearest key (vocabulary_words format vocabulary)) ++ (moved_text format vocabulary key ++ joined_text ws))
 
 -- the forms, and where there is none the nearest words
-abbrev pub forms_text : List (List ℕ) → List ℕ → List ℕ
-forms_text ws [] = unknown_text ws
-forms_text ws (b ∷ bs) = b ∷ bs
+abbrev pub forms_text : Format → List (List ℕ) → List ℕ → List ℕ
+forms_text format ws [] = unknown_text format ws
+forms_text format ws (b ∷ bs) = b ∷ bs
 
 abbrev pub words_text : Format → Bool → List (List ℕ) → List ℕ
-words_text format below ws = cond (below && is_declared ws) (codes "declarations stand above all operations\n") (forms_text ws (told_texts format ws FORMS))
+words_text format below ws = cond (below && is_declared format ws) (codes "declarations stand above all operations\n") (forms_text format ws (told_texts format ws FORMS))
 
 -- what no line has in it, and else the forms
 abbrev pub syntax_text : Format → Bool → List ℕ → List (List ℕ) → List ℕ

@@ -1,7 +1,7 @@
 -- A column that stands in a line twice.
 use Rattle.std.specs.Prelude.{ℕ, ◌==◌, Bool, cond, ◌&&◌, List, [], ◌∷◌, codes, Option, Some, None, bytes_eq}
 use Rattle.std.specs.Option.{option_map_or}
-use Rattle.std.specs.List.{list_any, concat}
+use Rattle.std.specs.List.{list_any, concat, slice_index_or}
 
 abbrev pub has_dot : List ℕ → Bool
 has_dot w = list_any (λ b. b == 46) w
@@ -18,5 +18,13 @@ repeated_column (w ∷ ws) = cond (stands_again w ws) (Some w) (repeated_column 
 abbrev pub column_text : List ℕ → List ℕ
 column_text w = concat (codes "no line works in place: " ∷ w ∷ codes " stands in it twice, and the columns of a line must differ\n" ∷ [])
 
+abbrev pub column_twice_text : List (List ℕ) → List ℕ
+column_twice_text ws = option_map_or column_text (repeated_column ws) []
+
+-- words of a call, which may name a column several times
+abbrev pub is_call : List (List ℕ) → Bool
+is_call ws = bytes_eq (slice_index_or ws 2 []) (codes "call")
+
+-- what is told of a column that stands in a line twice
 abbrev pub repeated_text : List (List ℕ) → List ℕ
-repeated_text ws = option_map_or column_text (repeated_column ws) []
+repeated_text ws = cond (is_call ws) [] (column_twice_text ws)

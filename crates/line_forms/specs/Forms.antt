@@ -1,5 +1,5 @@
 -- The forms of lines, and where a line leaves one.
-use Rattle.std.specs.Prelude.{ℕ, ◌+◌, ◌-◌, ◌==◌, nat_le, Bool, true, false, cond, ◌&&◌, ◌||◌, List, [], ◌∷◌, length, take, codes}
+use Rattle.std.specs.Prelude.{ℕ, ◌+◌, ◌-◌, ◌==◌, nat_le, Bool, true, false, cond, ◌&&◌, ◌||◌, List, [], ◌∷◌, length, take, drop, codes}
 use Rattle.std.specs.Str.{bytes_eq}
 use Rattle.graph_terms.specs.declared.format.Format.{Format}
 use Rattle.graph_terms.specs.declared.format.Format.TheVariants.{One, Two, Three}
@@ -7,11 +7,14 @@ use Rattle.graph_words.specs.Words.{pieces}
 use Rattle.graph_terms.specs.Format.{has_since}
 use Rattle.line_forms.specs.declared.form.Form.{Form}
 use Rattle.line_forms.specs.declared.form.Form.TheVariants as forms
+use Rattle.line_forms.specs.declared.calls.Expected.TheVariants.{Value}
+use Rattle.line_forms.specs.Calls.{follow_call}
 
--- the forms of formats 1 and 2: a word in capitals stands for any word of its kind, and what stands in brackets may be left out
+-- the forms, each in the first format that has it: a word in capitals stands for any word of its kind, and what stands in brackets may be left out
 abbrev pub form_text : Form → List ℕ
 form_text forms.Space = codes "space NAME INTERVALS"
 form_text forms.Inst = codes "inst NAME SPACE FIELDS"
+form_text forms.Data = codes "data NAME SPACE FIELDS"
 form_text forms.Lock = codes "lock NAME"
 form_text forms.Barrier = codes "barrier NAME COUNT OP VALUE"
 form_text forms.User = codes "NAME = user"
@@ -36,17 +39,21 @@ form_text forms.Hist = codes "NAME = task hist COLUMN COLUMN SPACE SPACE [on EVE
 form_text forms.Dot = codes "NAME = task dot COLUMN COLUMN COLUMN SPACE SPACE [on EVENT]"
 form_text forms.Expect = codes "NAME = task expect COLUMN SPACE VALUE VALUE [on EVENT]"
 form_text forms.Gather = codes "NAME = task gather COLUMN COLUMN COLUMN SPACE SPACE [on EVENT]"
+form_text forms.Call = codes "NAME = call WORD [VALUE ...] [read|write|sum|min|max COLUMN SPACE ...] [on EVENT]"
 
 -- the format that brought it
 abbrev pub form_since : Form → Format
 form_since forms.ArriveTimes = Two
 form_since forms.AcquireShared = Two
+form_since forms.Data = Three
+form_since forms.Call = Three
 form_since _ = One
 
 -- how many words of a line tell that it is to have this form: up to its verb or its kernel
 abbrev pub key_words : Form → ℕ
 key_words forms.Space = 1
 key_words forms.Inst = 1
+key_words forms.Data = 1
 key_words forms.Lock = 1
 key_words forms.Barrier = 1
 key_words forms.Iota = 4
@@ -82,8 +89,13 @@ follow [] ws = 0
 follow (item ∷ items) [] = 0
 follow (item ∷ items) (w ∷ ws) = cond (fits item w) (1 + follow items ws) 0
 
+-- and with the words behind the word of a call, of which a line has the first n words
+abbrev pub follow_on : Form → List (List ℕ) → ℕ → ℕ
+follow_on forms.Call ws n = cond (nat_le 4 n) (4 + follow_call (Value 0) (drop 4 ws)) n
+follow_on _ ws n = n
+
 abbrev pub followed : Form → List (List ℕ) → ℕ
-followed f ws = follow (pieces 32 (form_text f)) ws
+followed f ws = follow_on f ws (follow (pieces 32 (form_text f)) ws)
 
 abbrev pub form_words : Form → ℕ
 form_words f = length (pieces 32 (form_text f))
@@ -92,6 +104,7 @@ form_words f = length (pieces 32 (form_text f))
 abbrev pub takes_on : Form → Bool
 takes_on forms.Space = false
 takes_on forms.Inst = false
+takes_on forms.Data = false
 takes_on forms.Lock = false
 takes_on forms.Barrier = false
 takes_on forms.User = false

@@ -1,4 +1,5 @@
 pub mod Blanks
+pub mod Calls
 pub mod Files
 pub mod Forms
 pub mod Hint

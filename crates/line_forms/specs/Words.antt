@@ -1,22 +1,30 @@
 -- The words that tell what a line is, and the nearest of them.
 use Rattle.std.specs.Prelude.{ℕ, ◌==◌, nat_eq, nat_le, cond, List, [], ◌∷◌, ◌++◌, length, take, filter, flat_map, codes}
 use Rattle.strsim.specs.Edits.{levenshtein_row}
+use Rattle.graph_terms.specs.declared.format.Format.{Format}
+use Rattle.graph_terms.specs.declared.format.Format.TheVariants.{Three}
 use Rattle.line_forms.specs.declared.vocabulary.Vocabulary.{Vocabulary}
 use Rattle.line_forms.specs.declared.vocabulary.Vocabulary.TheVariants.{Starts, Verbs, Kernels}
 use Rattle.line_forms.specs.Hint.{before_space}
 
--- in the language's order
-abbrev pub vocabulary_words : Vocabulary → List (List ℕ)
-vocabulary_words Starts = codes "space" ∷ codes "inst" ∷ codes "lock" ∷ codes "barrier" ∷ codes "end" ∷ []
-vocabulary_words Verbs =
+-- those that a format has, in the language's order
+abbrev pub vocabulary_words : Format → Vocabulary → List (List ℕ)
+vocabulary_words Three Starts = codes "space" ∷ codes "inst" ∷ codes "data" ∷ codes "lock" ∷ codes "barrier" ∷ codes "end" ∷ []
+vocabulary_words Three Verbs =
+    codes "user" ∷ codes "trigger" ∷ codes "cancel" ∷ codes "merge" ∷ codes "mergei" ∷ codes "phase" ∷ codes "arrive" ∷ codes "acquire"
+    ∷ codes "release" ∷ codes "fill" ∷ codes "copy" ∷ codes "reduce" ∷ codes "task" ∷ codes "call" ∷ []
+vocabulary_words format Starts = codes "space" ∷ codes "inst" ∷ codes "lock" ∷ codes "barrier" ∷ codes "end" ∷ []
+vocabulary_words format Verbs =
     codes "user" ∷ codes "trigger" ∷ codes "cancel" ∷ codes "merge" ∷ codes "mergei" ∷ codes "phase" ∷ codes "arrive" ∷ codes "acquire"
     ∷ codes "release" ∷ codes "fill" ∷ codes "copy" ∷ codes "reduce" ∷ codes "task" ∷ []
-vocabulary_words Kernels = codes "iota" ∷ codes "axpy" ∷ codes "stencil" ∷ codes "scan" ∷ codes "hist" ∷ codes "dot" ∷ codes "expect" ∷ codes "gather" ∷ []
+vocabulary_words format Kernels = codes "iota" ∷ codes "axpy" ∷ codes "stencil" ∷ codes "scan" ∷ codes "hist" ∷ codes "dot" ∷ codes "expect" ∷ codes "gather" ∷ []
 
-abbrev pub vocabulary_text : Vocabulary → List ℕ
-vocabulary_text Starts = codes "a line begins with space, inst, lock, barrier or end, or with NAME =\n"
-vocabulary_text Verbs = codes "the verbs are user, trigger, cancel, merge, mergei, phase, arrive, acquire, release, fill, copy, reduce and task\n"
-vocabulary_text Kernels = codes "the kernels are iota, axpy, stencil, scan, hist, dot, expect and gather\n"
+abbrev pub vocabulary_text : Format → Vocabulary → List ℕ
+vocabulary_text Three Starts = codes "a line begins with space, inst, data, lock, barrier or end, or with NAME =\n"
+vocabulary_text Three Verbs = codes "the verbs are user, trigger, cancel, merge, mergei, phase, arrive, acquire, release, fill, copy, reduce, task and call\n"
+vocabulary_text format Starts = codes "a line begins with space, inst, lock, barrier or end, or with NAME =\n"
+vocabulary_text format Verbs = codes "the verbs are user, trigger, cancel, merge, mergei, phase, arrive, acquire, release, fill, copy, reduce and task\n"
+vocabulary_text format Kernels = codes "the kernels are iota, axpy, stencil, scan, hist, dot, expect and gather\n"
 
 -- the least number of letters that are put in, taken out or replaced to make one word the other
 abbrev pub distance : List ℕ → List ℕ → ℕ

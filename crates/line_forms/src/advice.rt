@@ -105,31 +105,32 @@ fn put_words(
 ) -> Result<(), NoMemory>
     ensures { OnOk result (out.new.items ≡ out.old.items ++ words_text format below (contents words.now)) }
 {
-    if is_misplaced(below, words) {
+    if is_misplaced(format, below, words) {
         return put(out, b"declarations stand above all operations\n");
     }
     let forms = told_texts(alloc, format, words, &FORMS)?;
-    put_forms(alloc, out, forms.as_slice(), words)
+    put_forms(alloc, out, format, forms.as_slice(), words)
 }
 
 /// Whether words begin as a declaration does, below an operation.
-fn is_misplaced(below: bool, words: &[&[u8]]) -> bool
-    ensures { result ≡ (below && is_declared (contents words.now)) }
+fn is_misplaced(format: Format, below: bool, words: &[&[u8]]) -> bool
+    ensures { result ≡ (below && is_declared format (contents words.now)) }
 {
-    below && is_declared(words)
+    below && is_declared(format, words)
 }
 
 /// Puts what is told of forms, or the words next to one that is none.
 fn put_forms(
     alloc: Global,
     out: &mut Vec<u8>,
+    format: Format,
     forms: &[u8],
     words: &[&[u8]],
 ) -> Result<(), NoMemory>
-    ensures { OnOk result (out.new.items ≡ out.old.items ++ forms_text (contents words.now) forms.now) }
+    ensures { OnOk result (out.new.items ≡ out.old.items ++ forms_text format (contents words.now) forms.now) }
 {
     if forms.is_empty() {
-        return put_unknown(alloc, out, words);
+        return put_unknown(alloc, out, format, words);
     }
     put(out, forms)
 }
@@ -265,19 +266,20 @@ fn is_operation(words: &[&[u8]]) -> bool
 }
 
 /// Whether words begin as a declaration does.
-fn is_declared(words: &[&[u8]]) -> bool
-    ensures { result ≡ is_declared (contents words.now) }
+fn is_declared(format: Format, words: &[&[u8]]) -> bool
+    ensures { result ≡ is_declared format (contents words.now) }
 {
-    !is_operation(words) && begins_declaration(word(words, 0))
+    !is_operation(words) && begins_declaration(format, word(words, 0))
 }
 
-fn begins_declaration(word: &[u8]) -> bool
-    ensures { result ≡ begins_declaration word.now }
+fn begins_declaration(format: Format, word: &[u8]) -> bool
+    ensures { result ≡ begins_declaration format word.now }
 {
     word == b"space".as_slice()
         || word == b"inst".as_slice()
         || word == b"lock".as_slice()
         || word == b"barrier".as_slice()
+        || (word == b"data".as_slice() && format.has_since(Format::Three))
 }
 
 /// The number, from 0, of the word that would tell what the line is.
@@ -311,29 +313,44 @@ fn is_task(words: &[&[u8]]) -> bool
 }
 
 /// Puts that no line has this word where it would tell what the line is, and the nearest that may stand there.
-fn put_unknown(alloc: Global, out: &mut Vec<u8>, words: &[&[u8]]) -> Result<(), NoMemory>
-    ensures { OnOk result (out.new.items ≡ out.old.items ++ unknown_text (contents words.now)) }
+fn put_unknown(
+    alloc: Global,
+    out: &mut Vec<u8>,
+    format: Format,
+    words: &[&[u8]],
+) -> Result<(), NoMemory>
+    ensures { OnOk result (out.new.items ≡ out.old.items ++ unknown_text format (contents words.now)) }
 {
     let vocabulary = vocabulary_of(words);
     let key = word(words, key_place(words));
-    let near = nearest(alloc, key, vocabulary_words(vocabulary))?;
-    put(out, vocabulary_text(vocabulary))?;
+    let near = nearest(alloc, key, vocabulary_words(format, vocabulary))?;
+    put(out, vocabulary_text(format, vocabulary))?;
     put_nearest(out, near.as_slice())?;
-    put_moved(out, vocabulary, key)?;
+    put_moved(out, format, vocabulary, key)?;
     put_joined(out, words)
 }
 
 /// Puts what has to stand before a word that tells what a line is, where it stands in another place.
-fn put_moved(out: &mut Vec<u8>, vocabulary: Vocabulary, key: &[u8]) -> Result<(), NoMemory>
-    ensures { OnOk result (out.new.items ≡ out.old.items ++ moved_text vocabulary key.now) }
+fn put_moved(
+    out: &mut Vec<u8>,
+    format: Format,
+    vocabulary: Vocabulary,
+    key: &[u8],
+) -> Result<(), NoMemory>
+    ensures { OnOk result (out.new.items ≡ out.old.items ++ moved_text format vocabulary key.now) }
 {
     match vocabulary {
         Vocabulary::Starts => {
-            put_where(out, is_verb(key), b"NAME = stands before ", key)?;
-            put_where(out, is_kernel(key), b"NAME = task stands before ", key)
+            put_where(out, is_verb(format, key), b"NAME = stands before ", key)?;
+            put_where(
+                out,
+                is_kernel(format, key),
+                b"NAME = task stands before ",
+                key,
+            )
         }
-        Vocabulary::Verbs => put_where(out, is_kernel(key), b"task stands before ", key),
-        Vocabulary::Kernels => put_where(out, is_verb(key), b"no task stands before ", key),
+        Vocabulary::Verbs => put_where(out, is_kernel(format, key), b"task stands before ", key),
+        Vocabulary::Kernels => put_where(out, is_verb(format, key), b"no task stands before ", key),
     }
 }
 
@@ -347,16 +364,16 @@ fn put_where(out: &mut Vec<u8>, holds: bool, text: &[u8], word: &[u8]) -> Result
     Ok(())
 }
 
-fn is_verb(word: &[u8]) -> bool
-    ensures { result ≡ is_verb word.now }
+fn is_verb(format: Format, word: &[u8]) -> bool
+    ensures { result ≡ is_verb format word.now }
 {
-    is_among(word, vocabulary_words(Vocabulary::Verbs))
+    is_among(word, vocabulary_words(format, Vocabulary::Verbs))
 }
 
-fn is_kernel(word: &[u8]) -> bool
-    ensures { result ≡ is_kernel word.now }
+fn is_kernel(format: Format, word: &[u8]) -> bool
+    ensures { result ≡ is_kernel format word.now }
 {
-    is_among(word, vocabulary_words(Vocabulary::Kernels))
+    is_among(word, vocabulary_words(format, Vocabulary::Kernels))
 }
 
 /// Puts that the sign of an operation is a word, where it is joined to one.

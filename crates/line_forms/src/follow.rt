@@ -1,12 +1,13 @@
 //! How far a line goes with a form.
 
-ghost use Rattle.std.specs.Prelude.{◌≡◌, nat_lt, length, IfOk};
+ghost use Rattle.std.specs.Prelude.{◌≡◌, ◌≤◌, nat_lt, length, IfOk};
 ghost use Rattle.basics.specs.Words.{contents};
-ghost use Rattle.line_forms.specs.Forms.{is_capital, bare, is_op, fits, follow, followed, form_words, is_told};
+ghost use Rattle.line_forms.specs.Forms.{is_capital, bare, is_op, fits, follow, follow_on, followed, form_words, is_told};
 
+use crate::calls::follow_call;
 use crate::form::Form;
 use graph_terms::format::Format;
-use graph_words::words::{split, word};
+use graph_words::words::{behind, split, word};
 use index_spaces::NoMemory;
 use std::alloc::Global;
 
@@ -15,7 +16,20 @@ pub fn followed(alloc: Global, form: Form, words: &[&[u8]]) -> Result<(usize, us
     ensures { IfOk result (λ x. (x.0 ≡ followed form (contents words.now)) × (x.1 ≡ form_words form)) }
 {
     let items = split(alloc, form.text(), b' ')?;
-    Ok((follow(items.as_slice(), words), items.len()))
+    let front = follow(items.as_slice(), words);
+    Ok((follow_on(form, words, front), items.len()))
+}
+
+/// How many words of a line stand as in the form, with those behind the word of a call, where the
+/// first `n` do.
+fn follow_on(form: Form, words: &[&[u8]], n: usize) -> usize
+    requires { n ≤ length words.now }
+    ensures { result ≡ follow_on form (contents words.now) n }
+{
+    match form {
+        Form::Call if n >= 4 => 4 + follow_call(behind(words, 4)),
+        _ => n,
+    }
 }
 
 /// How many words of a line stand as the words of a form do.

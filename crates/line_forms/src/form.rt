@@ -7,6 +7,7 @@ use graph_terms::format::Format;
 pub enum Form {
     Space,
     Inst,
+    Data,
     Lock,
     Barrier,
     User,
@@ -31,12 +32,14 @@ pub enum Form {
     Dot,
     Expect,
     Gather,
+    Call,
 }
 
 /// All forms.
-pub const FORMS: [Form; 26] = [
+pub const FORMS: [Form; 28] = [
     Form::Space,
     Form::Inst,
+    Form::Data,
     Form::Lock,
     Form::Barrier,
     Form::User,
@@ -61,13 +64,14 @@ pub const FORMS: [Form; 26] = [
     Form::Dot,
     Form::Expect,
     Form::Gather,
+    Form::Call,
 ];
 
 impl Form {
     ghost use Rattle.std.specs.Prelude.{◌≡◌};
     ghost use Rattle.line_forms.specs.Forms.{form_text, form_since, key_words, takes_on, takes_several, shown_front, shown_end, takes_many};
 
-    /// The form in formats 1 and 2, as docs/LANGUAGE.md writes it: a word in capitals stands for any
+    /// The form in the first format that has it, as docs/LANGUAGE.md writes it: a word in capitals stands for any
     /// word of its kind, and what stands in brackets may be left out.
     pub fn text(self) -> &'static [u8]
         ensures { result.now ≡ form_text self }
@@ -75,6 +79,7 @@ impl Form {
         match self {
             Form::Space => b"space NAME INTERVALS",
             Form::Inst => b"inst NAME SPACE FIELDS",
+            Form::Data => b"data NAME SPACE FIELDS",
             Form::Lock => b"lock NAME",
             Form::Barrier => b"barrier NAME COUNT OP VALUE",
             Form::User => b"NAME = user",
@@ -99,6 +104,9 @@ impl Form {
             Form::Dot => b"NAME = task dot COLUMN COLUMN COLUMN SPACE SPACE [on EVENT]",
             Form::Expect => b"NAME = task expect COLUMN SPACE VALUE VALUE [on EVENT]",
             Form::Gather => b"NAME = task gather COLUMN COLUMN COLUMN SPACE SPACE [on EVENT]",
+            Form::Call => {
+                b"NAME = call WORD [VALUE ...] [read|write|sum|min|max COLUMN SPACE ...] [on EVENT]"
+            }
         }
     }
 
@@ -108,6 +116,7 @@ impl Form {
     {
         match self {
             Form::ArriveTimes | Form::AcquireShared => Format::Two,
+            Form::Data | Form::Call => Format::Three,
             _ => Format::One,
         }
     }
@@ -117,7 +126,7 @@ impl Form {
         ensures { result ≡ key_words self }
     {
         match self {
-            Form::Space | Form::Inst | Form::Lock | Form::Barrier => 1,
+            Form::Space | Form::Inst | Form::Data | Form::Lock | Form::Barrier => 1,
             Form::Iota
             | Form::Axpy
             | Form::Stencil
@@ -137,6 +146,7 @@ impl Form {
         match self {
             Form::Space
             | Form::Inst
+            | Form::Data
             | Form::Lock
             | Form::Barrier
             | Form::User

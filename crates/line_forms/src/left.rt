@@ -7,6 +7,7 @@ ghost use Rattle.line_forms.specs.Left.{one_if, is_first, left_text};
 
 use crate::form::Form;
 use graph_terms::format::Format;
+use graph_words::calls::begins_with_digit;
 
 /// What is told of a word at which a line leaves the form, by its number from 0.
 pub(crate) fn left_text(format: Format, form: Form, n: usize, word: &[u8]) -> &'static [u8]
@@ -17,7 +18,7 @@ pub(crate) fn left_text(format: Format, form: Form, n: usize, word: &[u8]) -> &'
             n == 3,
             b"INTERVALS is one word: LOW..HIGH, or several with , between two and no space\n",
         ),
-        Form::Inst => one_if(
+        Form::Inst | Form::Data => one_if(
             n == 4,
             b"FIELDS is one word: one NAME or more, with , between two and no space\n",
         ),
@@ -37,6 +38,10 @@ pub(crate) fn left_text(format: Format, form: Form, n: usize, word: &[u8]) -> &'
         Form::Acquire => one_if(
             is_first(format) && (n == 4 && word == b"shared".as_slice()),
             b"shared is of format 2: a text that begins with realm 2 has it\n",
+        ),
+        Form::Call => one_if(
+            n > 3 && begins_with_digit(word),
+            b"VALUEs stand right behind WORD, and at most 4 of them\n",
         ),
         _ => b"",
     }

@@ -3,6 +3,7 @@
 
 mod advice;
 pub mod blanks;
+pub mod calls;
 mod files;
 pub mod follow;
 mod form;

@@ -3,14 +3,33 @@
 ghost use Rattle.std.specs.Prelude.{◌≡◌, ◌++◌, ◌&&◌, option_map, bytes_eq, OnOk};
 ghost use Rattle.std.specs.List.{list_any};
 ghost use Rattle.basics.specs.Words.{contents};
-ghost use Rattle.line_forms.specs.Columns.{has_dot, stands_again, repeated_column, repeated_text};
+ghost use Rattle.line_forms.specs.Columns.{has_dot, stands_again, repeated_column, is_call, column_twice_text, repeated_text};
 
 use crate::putting::put_all;
+use graph_words::words::word;
 use index_spaces::NoMemory;
 
-/// Puts that a column stands in a line twice, where one does.
+/// Puts that a column stands in a line twice, where one does and may not: in a call it may.
 pub(crate) fn put_repeated(out: &mut Vec<u8>, words: &[&[u8]]) -> Result<(), NoMemory>
     ensures { OnOk result (out.new.items ≡ out.old.items ++ repeated_text (contents words.now)) }
+{
+    if is_call(words) {
+        Ok(())
+    } else {
+        put_column(out, words)
+    }
+}
+
+/// Whether the words are those of a call.
+fn is_call(words: &[&[u8]]) -> bool
+    ensures { result ≡ is_call (contents words.now) }
+{
+    word(words, 2) == b"call".as_slice()
+}
+
+/// Puts that a column stands in a line twice, where one does.
+fn put_column(out: &mut Vec<u8>, words: &[&[u8]]) -> Result<(), NoMemory>
+    ensures { OnOk result (out.new.items ≡ out.old.items ++ column_twice_text (contents words.now)) }
 {
     match repeated_column(words) {
         Some(column) => {
@@ -51,7 +70,7 @@ fn stands_again(word: &[u8], others: &[&[u8]]) -> bool
 fn has_dot(word: &[u8]) -> bool
     ensures { result ≡ has_dot word.now }
 {
-    word.contains(&b'.')
+    word.iter().any(|byte| *byte == b'.')
 }
 
 /// Whether a word stands among others.

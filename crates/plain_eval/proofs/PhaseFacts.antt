@@ -20,7 +20,7 @@ use Rattle.graph_terms.specs.declared.outcome.End.{End}
 use Rattle.graph_terms.specs.declared.outcome.End.TheVariants.{Done, Faulted, Cancelled, Waiting}
 use Rattle.graph_terms.specs.declared.verb.Line.{Line}
 use Rattle.graph_terms.specs.declared.verb.Verb.{Verb}
-use Rattle.graph_terms.specs.declared.verb.Verb.TheVariants.{User, Trigger, Cancel, Merge, MergeIgnore, Phase, Arrive, Acquire, Release, Fill, Copy, Reduce, Task}
+use Rattle.graph_terms.specs.declared.verb.Verb.TheVariants.{Phase, Arrive}
 use Rattle.graph_terms.specs.Graph.{GraphValue, barriers, columns, verb_at}
 use Rattle.graph_terms.specs.Fits.{IsGraph}
 use Rattle.graph_meaning.specs.LineLaws.{PhasesFit}
@@ -90,18 +90,7 @@ arrive_by g k q v w l old h e o =
 
 reduced_by : (g : GraphValue) (k : ℕ) (x : Line) (old : List (Option Reduction)) (v : Verb) → x.verb ≡ v → slice_get g.lines k ≡ Some x → old ≡ map (reduction_after g k) (numbers_below (length g.lines)) → with_arrival v old ≡ map (reduction_after g (k + 1)) (numbers_below (length g.lines))
 reduced_by g n x old (Arrive q v w) e h r = arrive_by g n q v w x old h e r
-reduced_by g n x old User e h r = same_by g n x old h (λ p. ap (arrival_value p) e) r
-reduced_by g n x old (Trigger u) e h r = same_by g n x old h (λ p. ap (arrival_value p) e) r
-reduced_by g n x old (Cancel u) e h r = same_by g n x old h (λ p. ap (arrival_value p) e) r
-reduced_by g n x old (Merge es) e h r = same_by g n x old h (λ p. ap (arrival_value p) e) r
-reduced_by g n x old (MergeIgnore es) e h r = same_by g n x old h (λ p. ap (arrival_value p) e) r
-reduced_by g n x old (Phase b) e h r = same_by g n x old h (λ p. ap (arrival_value p) e) r
-reduced_by g n x old (Acquire l s) e h r = same_by g n x old h (λ p. ap (arrival_value p) e) r
-reduced_by g n x old (Release q) e h r = same_by g n x old h (λ p. ap (arrival_value p) e) r
-reduced_by g n x old (Fill t s v) e h r = same_by g n x old h (λ p. ap (arrival_value p) e) r
-reduced_by g n x old (Copy a b s) e h r = same_by g n x old h (λ p. ap (arrival_value p) e) r
-reduced_by g n x old (Reduce o a b s) e h r = same_by g n x old h (λ p. ap (arrival_value p) e) r
-reduced_by g n x old (Task k) e h r = same_by g n x old h (λ p. ap (arrival_value p) e) r
+reduced_by g n x old v e h r = same_by g n x old h (λ p. ap (arrival_value p) e) r
 
 pub reduced_more : (g : GraphValue) (k : ℕ) (x : Line) (old new : List (Option Reduction)) → slice_get g.lines k ≡ Some x → old ≡ map (reduction_after g k) (numbers_below (length g.lines)) → new ≡ with_arrival x.verb old → new ≡ map (reduction_after g (k + 1)) (numbers_below (length g.lines))
 reduced_more g k x old new h o w = w ∙ reduced_by g k x old x.verb refl h o
@@ -121,18 +110,7 @@ total_by g p Done None known = refl
 total_by g p Done (Some (Phase b)) known =
     let none : BarrierInfo = record { name = []; count = 0; «op» = Min; «first» = 0 } in
     value_by (slice_get (barriers g) b) (get_or (barriers g) b none) (arrived p g.lines) (slice_get-get_or (barriers g) b none (known b refl))
-total_by g p Done (Some User) known = refl
-total_by g p Done (Some (Trigger u)) known = refl
-total_by g p Done (Some (Cancel u)) known = refl
-total_by g p Done (Some (Merge es)) known = refl
-total_by g p Done (Some (MergeIgnore es)) known = refl
-total_by g p Done (Some (Arrive q v w)) known = refl
-total_by g p Done (Some (Acquire l s)) known = refl
-total_by g p Done (Some (Release q)) known = refl
-total_by g p Done (Some (Fill t s v)) known = refl
-total_by g p Done (Some (Copy a b s)) known = refl
-total_by g p Done (Some (Reduce o a b s)) known = refl
-total_by g p Done (Some (Task k)) known = refl
+total_by g p Done (Some v) known = refl
 
 pub totals : PhasesFit → (g : GraphValue) → IsGraph g → (reductions : List (Option Reduction)) (values : List (Option ℕ)) (k : ℕ) → reductions ≡ map (reduction_after g (length g.lines)) (numbers_below (length g.lines)) → values ≡ map (option_map (λ (r : Reduction). r.total)) (take k reductions) → length reductions ≤ k →
     values ≡ map (phase_value g) (numbers_below (length g.lines))

@@ -6,16 +6,16 @@ use Rattle.std.specs.List.{slice_index_or}
 use Rattle.std.proofs.lemmas.Option.{none-some, same_Some, slice_get_within, get_or_from_slice_get, slice_get-get_or}
 use Rattle.std.proofs.lemmas.List.{take_more, take_all}
 use Rattle.graph_terms.specs.declared.verb.Access.{Access}
-use Rattle.graph_terms.specs.Graph.{GraphValue, columns}
-use Rattle.graph_terms.specs.Access.{accesses}
+use Rattle.graph_terms.specs.Graph.{GraphValue}
+use Rattle.graph_terms.specs.Access.{all_accesses}
 use Rattle.graph_terms.specs.Fits.{IsGraph}
-use Rattle.graph_meaning.specs.LineLaws.{AccessesFit}
+use Rattle.graph_meaning.specs.LineLaws.{AllAccessesFit}
 use Rattle.race_sweeps.specs.Clash.{LinesClash}
 use Rattle.race_sweeps.proofs.AccessSteps.{access_read, no_access}
-use Rattle.race_check.specs.Races.{AreAccesses, AreSpacesKnown, ListsClash}
+use Rattle.race_check.specs.Races.{AreAccesses, AreSpacesKnown, ListsClash, column_count}
 
-pub column_known : AccessesFit → (g : GraphValue) → IsGraph g → (i k : ℕ) (a : Access) → slice_get (accesses g i) k ≡ Some a → a.column < length (columns g)
-column_known law g f i k a at = (law g i a f (access_read (accesses g i) k a at)).column
+pub column_known : AllAccessesFit → (g : GraphValue) → IsGraph g → (i k : ℕ) (a : Access) → slice_get (all_accesses g i) k ≡ Some a → a.column < column_count g
+column_known law g f i k a at = (law g i a f (access_read (all_accesses g i) k a at)).column
 
 pub item_read : (xs : List Access) (k : ℕ) → k < length xs → slice_get xs k ≡ Some (slice_index_or xs k no_access)
 item_read xs k h = slice_get-get_or xs k no_access h
@@ -32,15 +32,15 @@ pub first_all : (xs list : List Access) (k : ℕ) → length xs ≤ k → list �
 first_all xs list k few so_far = so_far ∙ take_all k xs few
 
 -- the accesses of a line, as a list that was made for it, are over spaces of the graph
-pub spaces_known : AccessesFit → (g : GraphValue) → IsGraph g → (i : ℕ) (xs : List Access) → xs ≡ accesses g i → AreSpacesKnown g xs
+pub spaces_known : AllAccessesFit → (g : GraphValue) → IsGraph g → (i : ℕ) (xs : List Access) → xs ≡ all_accesses g i → AreSpacesKnown g xs
 spaces_known law g f i xs is a c = (law g i a f (subst (λ ys. Contains ys a) is c)).space
 
 -- the accesses of a line, read from their table
-pub accesses_read : (g : GraphValue) (lists : List (Vec Access Global)) → AreAccesses g lists → (i : ℕ) (v : Vec Access Global) (xs : List Access) → i < length g.lines → v ≡ slice_index_or lists i v → xs ≡ v.items → xs ≡ accesses g i
+pub accesses_read : (g : GraphValue) (lists : List (Vec Access Global)) → AreAccesses g lists → (i : ℕ) (v : Vec Access Global) (xs : List Access) → i < length g.lines → v ≡ slice_index_or lists i v → xs ≡ v.items → xs ≡ all_accesses g i
 accesses_read g lists are i v xs h read same = same ∙ are.each i v (slice_get-get_or lists i v (let c : length lists ≡ length g.lines = are.count in omega arith) ∙ ap Some (sym read))
 
-pub clash_of_lists : (g : GraphValue) (commuting b : Bool) (i j : ℕ) (xs ys : List Access) → xs ≡ accesses g i → ys ≡ accesses g j → IsTrue b ↔ ListsClash g commuting xs ys → IsTrue b ↔ LinesClash g commuting i j
-clash_of_lists g commuting b i j xs ys e f k = subst (λ us. IsTrue b ↔ ListsClash g commuting us (accesses g j)) e (subst (λ vs. IsTrue b ↔ ListsClash g commuting xs vs) f k)
+pub clash_of_lists : (g : GraphValue) (commuting b : Bool) (i j : ℕ) (xs ys : List Access) → xs ≡ all_accesses g i → ys ≡ all_accesses g j → IsTrue b ↔ ListsClash g commuting xs ys → IsTrue b ↔ LinesClash g commuting i j
+clash_of_lists g commuting b i j xs ys e f k = subst (λ us. IsTrue b ↔ ListsClash g commuting us (all_accesses g j)) e (subst (λ vs. IsTrue b ↔ ListsClash g commuting xs vs) f k)
 
 -- what holds of each item of a list, with one more at its end
 pushed_cases : {X : Type 0} (xs : List X) (x : X) (k : ℕ) (v : X) → slice_get (xs ++ x ∷ []) k ≡ Some v → (slice_get xs k ≡ Some v) ⊎ ((k ≡ length xs) × (x ≡ v))

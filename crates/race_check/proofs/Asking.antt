@@ -8,7 +8,7 @@ use Rattle.graph_terms.specs.declared.verb.Access.{Access}
 use Rattle.graph_terms.specs.declared.verb.Mode.{Mode}
 use Rattle.graph_terms.specs.declared.verb.Mode.TheVariants.{Read, Write, Sum, Least, Most}
 use Rattle.graph_terms.specs.Graph.{GraphValue}
-use Rattle.graph_terms.specs.Access.{accesses, is_read, modes_clash, Conflict}
+use Rattle.graph_terms.specs.Access.{all_accesses, is_read, modes_clash, Conflict}
 use Rattle.race_sweeps.specs.Marks.{bit_in}
 use Rattle.race_sweeps.proofs.Bits.{or_old, or_new}
 use Rattle.race_check.specs.Races.{AreAsked, IsAsked}
@@ -35,10 +35,10 @@ found_more used changed xs k word more y at here before m x low is a b asked col
       or_new word more b (here a b asked (column ∙ ap (λ (z : Access). z.column) e) (subst (λ (z : Access). IsTrue (modes_clash a.mode z.mode)) e clash)))
 ]
 
-pub found_all : (g : GraphValue) (first end j k word : ℕ) (s : Asked) → length (accesses g j) ≤ k → AreFound s.used.items s.changed.items (accesses g j) k word → (b : ℕ) → AreAsked g first end s → first + b < end → Conflict g (first + b) j → bit_in word b ≡ true
+pub found_all : (g : GraphValue) (first end j k word : ℕ) (s : Asked) → length (all_accesses g j) ≤ k → AreFound s.used.items s.changed.items (all_accesses g j) k word → (b : ℕ) → AreAsked g first end s → first + b < end → Conflict g (first + b) j → bit_in word b ≡ true
 found_all g first end j k word s few found b asked low c =
     let o = c.other_in in
-    found o.0 c.other (let l : o.0 < length (accesses g j) = o.1 in omega arith) (slice_get-get_or (accesses g j) o.0 c.other o.1 ∙ ap Some o.2) c.one b (asked.each b c.one low c.one_in) c.conflict.column c.conflict.clash
+    found o.0 c.other (let l : o.0 < length (all_accesses g j) = o.1 in omega arith) (slice_get-get_or (all_accesses g j) o.0 c.other o.1 ∙ ap Some o.2) c.one b (asked.each b c.one low c.one_in) c.conflict.column c.conflict.clash
 
 -- the first k accesses of a line are asked about
 abbrev pub AreAdded : List ℕ → List ℕ → List Access → ℕ → ℕ → Type 0

@@ -3,7 +3,7 @@ use Rattle.std.proofs.Common.{◌≡◌, ℕ, Bool, ap}
 use Rattle.std.specs.Prelude.{Option, Some, None, option_and_then}
 use Rattle.std.proofs.lemmas.Option.{none-some, same_Some}
 use Rattle.graph_terms.specs.declared.verb.Verb.{Verb}
-use Rattle.graph_terms.specs.declared.verb.Verb.TheVariants.{User, Trigger, Cancel, Merge, MergeIgnore, Phase, Arrive, Acquire, Release, Fill, Copy, Reduce, Task}
+use Rattle.graph_terms.specs.declared.verb.Verb.TheVariants.{User, Trigger, Cancel, Merge, MergeIgnore, Phase, Arrive, Acquire, Release, Fill, Copy, Reduce, Task, Call}
 use Rattle.graph_terms.specs.Graph.{GraphValue, verb_at}
 use Rattle.graph_terms.specs.Reservations.{Acquires, taken_by, lock_at}
 use Rattle.graph_terms.proofs.Public.{acquire_is, is_acquire_from}
@@ -23,6 +23,7 @@ taken_from l (Some (Fill c s v)) h = absurd (none-some l h)
 taken_from l (Some (Copy a b s)) h = absurd (none-some l h)
 taken_from l (Some (Reduce o a b s)) h = absurd (none-some l h)
 taken_from l (Some (Task k)) h = absurd (none-some l h)
+taken_from l (Some (Call c)) h = absurd (none-some l h)
 
 -- the reservation of an acquire, both ways
 pub lock_is : (g : GraphValue) (q l : ℕ) → Acquires g q l → lock_at g q ≡ Some l

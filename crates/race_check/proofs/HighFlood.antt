@@ -9,7 +9,7 @@ use Rattle.graph_terms.specs.declared.verb.Edge.{Edge}
 use Rattle.graph_terms.specs.declared.verb.EdgeKind.TheVariants.{Passes}
 use Rattle.graph_terms.specs.declared.verb.Line.{Line}
 use Rattle.graph_terms.specs.declared.verb.Verb.{Verb}
-use Rattle.graph_terms.specs.declared.verb.Verb.TheVariants.{User, Trigger, Cancel, Merge, MergeIgnore, Phase, Arrive, Acquire, Release, Fill, Copy, Reduce, Task}
+use Rattle.graph_terms.specs.declared.verb.Verb.TheVariants.{User, Trigger, Cancel, Merge, MergeIgnore, Phase, Arrive, Acquire, Release, Fill, Copy, Reduce, Task, Call}
 use Rattle.graph_terms.specs.Graph.{GraphValue, verb_at, is_acquire_of, is_release_of, never_comes}
 use Rattle.graph_terms.specs.Edges.{edge, edges}
 use Rattle.graph_meaning.specs.Path.{last}
@@ -200,6 +200,7 @@ release_edge_is g e c =
     rivals_is (Some (Copy a b s)) k c = absurd (contains_none k c)
     rivals_is (Some (Reduce o a b s)) k c = absurd (contains_none k c)
     rivals_is (Some (Task t)) k c = absurd (contains_none k c)
+    rivals_is (Some (Call x)) k c = absurd (contains_none k c)
 
     after_is : (o : Option Verb) (k : ℕ) → Contains (option_map_or (acquires_after g) o []) k → (q : ℕ) × (o ≡ Some (Release q)) × Contains (option_map_or (rivals g) (verb_at g q) []) k
     after_is None k c = absurd (contains_none k c)
@@ -216,6 +217,7 @@ release_edge_is g e c =
     after_is (Some (Copy a b s)) k c = absurd (contains_none k c)
     after_is (Some (Reduce o a b s)) k c = absurd (contains_none k c)
     after_is (Some (Task t)) k c = absurd (contains_none k c)
+    after_is (Some (Call x)) k c = absurd (contains_none k c)
 
 -- all edges of the need are between lines of the graph
 pub need_edges_between : (g : GraphValue) → EdgesBetween g → (e : Edge) → Contains (need_edges g) e → (e.from < length g.lines) × (e.to < length g.lines)

@@ -10,7 +10,7 @@ use Rattle.std.proofs.lemmas.Nat.Bits.{bit_at-zero}
 use Rattle.graph_terms.specs.declared.verb.Access.{Access}
 use Rattle.graph_terms.specs.Graph.{GraphValue}
 use Rattle.graph_terms.specs.Edges.{edges}
-use Rattle.graph_terms.specs.Access.{accesses, AccessesConflict, Conflict}
+use Rattle.graph_terms.specs.Access.{all_accesses, AccessesConflict, Conflict}
 use Rattle.graph_meaning.specs.Path.{HasPath}
 use Rattle.graph_meaning.specs.Rules.{Exempt, modes_commute}
 use Rattle.graph_meaning.proofs.Public.{path_below}
@@ -57,7 +57,7 @@ settled_by_sections g i j b forward backward different clash soft apart = (
   (λ settled. (let x = exempt_of g i j true forward backward different clash settled in apart.1 (x.lock, (x.one, x.other, x.different, x.apart, x.one_section, x.other_section)))),
 )
   where
-    commutes : (x y : Access) → Contains (accesses g i) x → Contains (accesses g j) y → AccessesConflict g x y → modes_commute x.mode y.mode ≡ true
+    commutes : (x y : Access) → Contains (all_accesses g i) x → Contains (all_accesses g j) y → AccessesConflict g x y → modes_commute x.mode y.mode ≡ true
     commutes x y hx hy conflict = elim (cases_Bool (modes_commute x.mode y.mode)) [
       | inl both ↦ both
       | inr no' ↦ absurd (soft (x, hx, (y, hy, record { conflict = conflict; counts = ap not no' })))

@@ -2,8 +2,8 @@
 use Rattle.std.specs.Prelude.{◌≡◌, ℕ, ◌+◌, ◌<◌, true, false, Bool, List, length, Contains, Some, Vec, slice_get}
 use Rattle.std.specs.Global.{Global}
 use Rattle.graph_terms.specs.declared.verb.Access.{Access}
-use Rattle.graph_terms.specs.Graph.{GraphValue, columns, named_spaces}
-use Rattle.graph_terms.specs.Access.{accesses, is_read}
+use Rattle.graph_terms.specs.Graph.{GraphValue, columns, data_columns, named_spaces}
+use Rattle.graph_terms.specs.Access.{all_accesses, is_read}
 use Rattle.graph_meaning.specs.Path.{HasPath}
 use Rattle.race_sweeps.specs.Clash.{Clash}
 use Rattle.race_sweeps.specs.Marks.{bit_in}
@@ -24,7 +24,11 @@ AreSpacesKnown g xs = (a : Access) → Contains xs a → a.space < length (named
 -- the accesses of each line
 pub record AreAccesses (g : GraphValue) (lists : List (Vec Access Global)) : Type 0 where
   pub count : length lists ≡ length g.lines
-  pub each : (i : ℕ) (list : Vec Access Global) → slice_get lists i ≡ Some list → list.items ≡ accesses g i
+  pub each : (i : ℕ) (list : Vec Access Global) → slice_get lists i ≡ Some list → list.items ≡ all_accesses g i
+
+-- how many columns there are, with cells and of data
+abbrev pub column_count : GraphValue → ℕ
+column_count g = length (columns g) + length (data_columns g)
 
 -- the columns of an access are asked about bit b: those that it changes in two lists, and those that it reads in one
 pub record IsAsked (used changed : List ℕ) (a : Access) (b : ℕ) : Type 0 where
@@ -33,9 +37,9 @@ pub record IsAsked (used changed : List ℕ) (a : Access) (b : ℕ) : Type 0 whe
 
 -- they are asked about the lines from `first` up to `end`
 pub record AreAsked (g : GraphValue) (first end : ℕ) (s : Asked) : Type 0 where
-  pub used_size : length s.used.items ≡ length (columns g)
-  pub changed_size : length s.changed.items ≡ length (columns g)
-  pub each : (b : ℕ) (a : Access) → first + b < end → Contains (accesses g (first + b)) a → IsAsked s.used.items s.changed.items a b
+  pub used_size : length s.used.items ≡ column_count g
+  pub changed_size : length s.changed.items ≡ column_count g
+  pub each : (b : ℕ) (a : Access) → first + b < end → Contains (all_accesses g (first + b)) a → IsAsked s.used.items s.changed.items a b
 
 -- what is looked up of the 64 lines from the first one on
 pub record IsRivals (g : GraphValue) (r : Rivals) : Type 0 where

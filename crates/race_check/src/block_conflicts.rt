@@ -3,17 +3,16 @@
 ghost use Rattle.std.specs.Prelude.{◌≡◌, ℕ, ◌+◌, ◌*◌, ◌%◌, ◌^◌, ◌<◌, ◌≤◌, true, length, Contains, IsTrue, IfOk, slice_index, slice_set};
 ghost use Rattle.std.specs.Int.RustNames.{bit_or};
 ghost use Rattle.graph_terms.specs.declared.verb.Access.{Access};
-ghost use Rattle.graph_terms.specs.Access.{Conflict, accesses, modes_clash};
-ghost use Rattle.graph_terms.specs.Graph.{columns};
-ghost use Rattle.race_check.specs.Races.{AreAsked, IsAsked};
+ghost use Rattle.graph_terms.specs.Access.{Conflict, all_accesses, modes_clash};
+ghost use Rattle.race_check.specs.Races.{AreAsked, IsAsked, column_count};
 ghost use Rattle.race_sweeps.specs.Marks.{bit_in};
 
-use graph_meaning::line_laws::accesses_fit;
+use graph_meaning::line_laws::all_accesses_fit;
 use graph_model::graph::Graph;
 use graph_terms::verb::{Access, Mode};
 use index_spaces::NoMemory;
 use index_spaces::room::filled;
-use race_sweeps::clash::MOST_ACCESSES;
+use race_sweeps::clash::MAX_CALL_ACCESSES;
 use std::alloc::Global;
 
 /// For each column the lines of a block that use it, and those that change it.
@@ -31,7 +30,7 @@ impl Asked {
         ensures { IfOk result (AreAsked graph.now first end) }
     {
         let _ = graph.lines();
-        let columns = graph.columns() as usize;
+        let columns = graph.all_columns() as usize;
         let mut asked = Asked {
             used: filled(alloc, 0, columns)?,
             changed: filled(alloc, 0, columns)?,
@@ -48,11 +47,11 @@ impl Asked {
         requires asked { (first : ℕ) × (end : ℕ) × AreAsked graph.now first end self.now }
         ensures { (first end b : ℕ) → AreAsked graph.now first end self.now → first + b < end → Conflict graph.now (first + b) line → bit_in result b ≡ true }
     {
-        accesses_fit();
+        all_accesses_fit();
         let _ = graph.lines();
         let mut word = 0;
-        for k in 0..MOST_ACCESSES {
-            let Some(access) = graph.access(line, k) else {
+        for k in 0..MAX_CALL_ACCESSES {
+            let Some(access) = graph.any_access(line, k) else {
                 return word;
             };
             word |= self.of_access(access);
@@ -76,17 +75,17 @@ impl Asked {
     fn add_line(&mut self, graph: &Graph, line: u32, bit: u32)
         requires line { line < length graph.now.lines }
         requires bit { bit < 64 }
-        requires used_size { length self.old.used.items ≡ length (columns graph.now) }
-        requires changed_size { length self.old.changed.items ≡ length (columns graph.now) }
-        ensures used_size { length self.new.used.items ≡ length (columns graph.now) }
-        ensures changed_size { length self.new.changed.items ≡ length (columns graph.now) }
+        requires used_size { length self.old.used.items ≡ column_count graph.now }
+        requires changed_size { length self.old.changed.items ≡ column_count graph.now }
+        ensures used_size { length self.new.used.items ≡ column_count graph.now }
+        ensures changed_size { length self.new.changed.items ≡ column_count graph.now }
         ensures kept { (a : Access) (b : ℕ) → IsAsked self.old.used.items self.old.changed.items a b → IsAsked self.new.used.items self.new.changed.items a b }
-        ensures added { (a : Access) → Contains (accesses graph.now line) a → IsAsked self.new.used.items self.new.changed.items a bit }
+        ensures added { (a : Access) → Contains (all_accesses graph.now line) a → IsAsked self.new.used.items self.new.changed.items a bit }
     {
-        accesses_fit();
+        all_accesses_fit();
         let _ = graph.lines();
-        for k in 0..MOST_ACCESSES {
-            let Some(access) = graph.access(line, k) else {
+        for k in 0..MAX_CALL_ACCESSES {
+            let Some(access) = graph.any_access(line, k) else {
                 return;
             };
             self.add(access, bit);

@@ -3,16 +3,16 @@
 ghost use Rattle.std.specs.Prelude.{◌≡◌, ◌<◌, ◌↔◌, length, Contains, IsTrue, IfOk};
 ghost use Rattle.graph_terms.specs.declared.verb.Access.{Access};
 ghost use Rattle.graph_terms.specs.Graph.{named_spaces};
-ghost use Rattle.graph_terms.specs.Access.{accesses};
+ghost use Rattle.graph_terms.specs.Access.{all_accesses};
 ghost use Rattle.race_check.specs.Races.{AreAccesses, AreSpacesKnown, ListsClash};
 ghost use Rattle.race_sweeps.specs.Clash.{Clash, LinesClash};
 
-use graph_meaning::line_laws::accesses_fit;
+use graph_meaning::line_laws::all_accesses_fit;
 use graph_model::graph::Graph;
 use graph_terms::verb::Access;
 use index_spaces::NoMemory;
 use index_spaces::room::push;
-use race_sweeps::clash::{MOST_ACCESSES, clash};
+use race_sweeps::clash::{MAX_CALL_ACCESSES, clash};
 use std::alloc::Global;
 
 /// For each line its accesses, in order.
@@ -30,11 +30,12 @@ pub(crate) fn accesses_of_lines(alloc: Global, graph: &Graph) -> Result<Vec<Vec<
 /// The accesses of a line, in order.
 fn accesses_of(alloc: Global, graph: &Graph, line: u32) -> Result<Vec<Access>, NoMemory>
     requires { line < length graph.now.lines }
-    ensures { IfOk result (λ v. v.items ≡ accesses graph.now line) }
+    ensures { IfOk result (λ v. v.items ≡ all_accesses graph.now line) }
 {
+    let _ = graph.lines();
     let mut list = Vec::new(alloc);
-    for k in 0..MOST_ACCESSES {
-        let Some(access) = graph.access(line, k) else {
+    for k in 0..MAX_CALL_ACCESSES {
+        let Some(access) = graph.any_access(line, k) else {
             return Ok(list);
         };
         push(&mut list, access)?;
@@ -55,7 +56,7 @@ pub(crate) fn lines_clash(
     requires accesses { AreAccesses graph.now accesses.now }
     ensures { IsTrue result ↔ LinesClash graph.now commuting one other }
 {
-    accesses_fit();
+    all_accesses_fit();
     let _ = graph.lines();
     let ones = accesses[one as usize].as_slice();
     let others = accesses[other as usize].as_slice();

@@ -6,7 +6,8 @@ use Rattle.std.proofs.lemmas.Option.{none-some, same_Some, slice_get-get_or, sli
 use Rattle.std.proofs.lemmas.List.{get_or_append_left, get_or_push}
 use Rattle.graph_terms.specs.declared.verb.Access.{Access}
 use Rattle.graph_terms.specs.Graph.{GraphValue}
-use Rattle.graph_terms.specs.Access.{accesses}
+use Rattle.graph_terms.specs.Access.{all_accesses}
+use Rattle.graph_terms.specs.Fits.{IsGraph}
 use Rattle.basics.proofs.ListFacts.{got_contains}
 use Rattle.race_sweeps.specs.Classes.{IsBegin, HasNumber, AreOwn, AreClasses, AreClassesTo, place_at}
 use Rattle.race_sweeps.proofs.AccessSteps.{few_accesses, no_access}
@@ -37,7 +38,7 @@ classes_none g lines keys classes sites begins no_keys no_classes no_sites zero'
     no_class = ap length no_classes
 
 -- one more access
-module _ (g : GraphValue) (lines : List ℕ) (keys more : List Access) (classes sites begins after places : List ℕ) (p k c : ℕ) (a : Access) (here : p < length lines) (access : slice_get (accesses g (slice_index lines p)) k ≡ Some a)
+module _ (g : GraphValue) (lines : List ℕ) (keys more : List Access) (classes sites begins after places : List ℕ) (p k c : ℕ) (a : Access) (here : p < length lines) (access : slice_get (all_accesses g (slice_index lines p)) k ≡ Some a)
     (kept : (d : ℕ) (b : Access) → slice_get keys d ≡ Some b → slice_get more d ≡ Some b) (class : slice_get more c ≡ Some a) (grows : length more ≤ length keys + 1)
     (pushed : after ≡ classes ++ c ∷ []) (placed : places ≡ sites ++ p ∷ []) (t : AreClassesTo g lines keys classes sites begins p k) where
   same_size : length sites ≡ length classes
@@ -81,10 +82,10 @@ module _ (g : GraphValue) (lines : List ℕ) (keys more : List Access) (classes 
 
   own : AreOwn g lines more after places
   own r d b e key = elim (class_cases r d e) [
-    | inl was ↦ subst (λ z. Contains (accesses g (slice_index lines z)) b) (sym (old_place r (numbered_low r d was))) (t.own r d b was (key_back d b (t.known r d was) key))
+    | inl was ↦ subst (λ z. Contains (all_accesses g (slice_index lines z)) b) (sym (old_place r (numbered_low r d was))) (t.own r d b was (key_back d b (t.known r d was) key))
     | inr new ↦ (
         let same : a ≡ b = same_Some a b (sym class ∙ (ap (slice_get more) new.1 ∙ key)) in
-        subst (λ z. Contains (accesses g (slice_index lines z)) b) (sym (new_place r (new.0 ∙ sym same_size))) (subst (λ z. Contains (accesses g (slice_index lines p)) z) same (got_contains (accesses g (slice_index lines p)) k a access)))
+        subst (λ z. Contains (all_accesses g (slice_index lines z)) b) (sym (new_place r (new.0 ∙ sym same_size))) (subst (λ z. Contains (all_accesses g (slice_index lines p)) z) same (got_contains (all_accesses g (slice_index lines p)) k a access)))
   ]
 
   number_kept : (q : ℕ) (b : Access) → HasNumber keys classes sites q b → HasNumber more after places q b
@@ -96,7 +97,7 @@ module _ (g : GraphValue) (lines : List ℕ) (keys more : List Access) (classes 
     place_is = old_place h.number (numbered_low h.number h.class h.class_is) ∙ h.place_is;
   }
 
-  each : (q m : ℕ) (b : Access) → q < length lines → (q < p) ⊎ ((q ≡ p) × (m < k + 1)) → slice_get (accesses g (slice_index lines q)) m ≡ Some b → HasNumber more after places q b
+  each : (q m : ℕ) (b : Access) → q < length lines → (q < p) ⊎ ((q ≡ p) × (m < k + 1)) → slice_get (all_accesses g (slice_index lines q)) m ≡ Some b → HasNumber more after places q b
   each q m b in' before e = elim before [
     | inl l ↦ number_kept q b (t.each q m b in' (inl l) e)
     | inr at ↦ elim (cases_lt m k) [
@@ -104,7 +105,7 @@ module _ (g : GraphValue) (lines : List ℕ) (keys more : List Access) (classes 
       | inr up ↦ (
           let low : m < k + 1 = at.1 in
           let last : m ≡ k = omega arith in
-          let same : a ≡ b = same_Some a b (sym access ∙ (ap (λ z. slice_get (accesses g (slice_index lines z)) k) (sym at.0) ∙ (ap (slice_get (accesses g (slice_index lines q))) (sym last) ∙ e))) in
+          let same : a ≡ b = same_Some a b (sym access ∙ (ap (λ z. slice_get (all_accesses g (slice_index lines z)) k) (sym at.0) ∙ (ap (slice_get (all_accesses g (slice_index lines q))) (sym last) ∙ e))) in
           record { number = length classes; class = c; class_is = new_class; key_is = class ∙ ap Some same; place_is = new_place (length classes) (sym same_size) ∙ sym at.0 })
     ]
   ]
@@ -159,7 +160,7 @@ module _ (g : GraphValue) (lines : List ℕ) (keys more : List Access) (classes 
 
 module _ (g : GraphValue) (lines : List ℕ) (keys : List Access) (classes sites begins : List ℕ) where
   -- a line has no more accesses
-  pub classes_filled : (p k : ℕ) → k ≤ 8 → length (accesses g (slice_index lines p)) ≤ k → AreClassesTo g lines keys classes sites begins p k → AreClassesTo g lines keys classes sites begins p 8
+  pub classes_filled : (p k : ℕ) → k ≤ 8 → length (all_accesses g (slice_index lines p)) ≤ k → AreClassesTo g lines keys classes sites begins p k → AreClassesTo g lines keys classes sites begins p 8
   classes_filled p k most none t = record {
     numbered = t.numbered;
     within = t.within;
@@ -170,8 +171,8 @@ module _ (g : GraphValue) (lines : List ℕ) (keys : List Access) (classes sites
     each = λ q m a in' before e. t.each q m a in' (elim before [
       | inl l ↦ inl l
       | inr at ↦ (
-          let low : m < length (accesses g (slice_index lines q)) = slice_get_within (accesses g (slice_index lines q)) m a e in
-          let same : length (accesses g (slice_index lines q)) ≡ length (accesses g (slice_index lines p)) = ap (λ z. length (accesses g (slice_index lines z))) at.0 in
+          let low : m < length (all_accesses g (slice_index lines q)) = slice_get_within (all_accesses g (slice_index lines q)) m a e in
+          let same : length (all_accesses g (slice_index lines q)) ≡ length (all_accesses g (slice_index lines p)) = ap (λ z. length (all_accesses g (slice_index lines z))) at.0 in
           inr (at.0, omega arith))
     ]) e;
     known = t.known;
@@ -180,8 +181,8 @@ module _ (g : GraphValue) (lines : List ℕ) (keys : List Access) (classes sites
   }
 
   -- the next line begins
-  pub classes_next : (p : ℕ) (after : List ℕ) → AreClassesTo g lines keys classes sites begins p 8 → after ≡ begins ++ length classes ∷ [] → AreClassesTo g lines keys classes sites after (p + 1) 0
-  classes_next p after t pushed = record {
+  pub classes_next : IsGraph g → (p : ℕ) (after : List ℕ) → AreClassesTo g lines keys classes sites begins p 8 → after ≡ begins ++ length classes ∷ [] → AreClassesTo g lines keys classes sites after (p + 1) 0
+  classes_next fits p after t pushed = record {
     numbered = t.numbered;
     within = t.within;
     low = λ r low. (let l : place_at sites r ≤ p = t.low r low in omega arith);
@@ -200,8 +201,8 @@ module _ (g : GraphValue) (lines : List ℕ) (keys : List Access) (classes sites
       | inl l ↦ elim (cases_lt q p) [
         | inl low ↦ t.each q m a in' (inl low) e
         | inr up ↦ (
-            let low : m < length (accesses g (slice_index lines q)) = slice_get_within (accesses g (slice_index lines q)) m a e in
-            let few : length (accesses g (slice_index lines q)) ≤ 8 = few_accesses g (slice_index lines q) in
+            let low : m < length (all_accesses g (slice_index lines q)) = slice_get_within (all_accesses g (slice_index lines q)) m a e in
+            let few : length (all_accesses g (slice_index lines q)) ≤ 8 = few_accesses g fits (slice_index lines q) in
             let same : q ≡ p = omega arith in
             t.each q m a in' (inr (same, omega arith)) e)
       ]
@@ -228,7 +229,7 @@ module _ (g : GraphValue) (lines : List ℕ) (keys : List Access) (classes sites
     begin_count = t.begin_count ∙ ap (λ z. z + 1) all;
     begin = λ p le. t.begin p (omega (arith, all));
     own = t.own;
-    each = λ p a in' c. t.each p c.0 a in' (inl (omega (arith, all))) (slice_get-get_or (accesses g (slice_index lines p)) c.0 a c.1 ∙ ap Some c.2);
+    each = λ p a in' c. t.each p c.0 a in' (inl (omega (arith, all))) (slice_get-get_or (all_accesses g (slice_index lines p)) c.0 a c.1 ∙ ap Some c.2);
     known = t.known;
     few = t.few;
     count = (let f : length classes ≤ 8 * n + 0 = t.count in omega (arith, all));

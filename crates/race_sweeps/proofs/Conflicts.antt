@@ -12,7 +12,7 @@ use Rattle.race_sweeps.specs.Clash.{Clash, LinesClash}
 use Rattle.race_sweeps.specs.Held.{LieApart}
 use Rattle.graph_terms.specs.declared.verb.Access.{Access}
 use Rattle.graph_terms.specs.Graph.{GraphValue, space_at}
-use Rattle.graph_terms.specs.Access.{accesses, AccessesConflict, modes_clash}
+use Rattle.graph_terms.specs.Access.{all_accesses, AccessesConflict, modes_clash}
 use Rattle.graph_meaning.specs.Rules.{modes_commute}
 
 pub apart_back : (g : GraphValue) (i j : ℕ) → LieApart g i j → LieApart g j i
@@ -40,17 +40,17 @@ conflict_passes g a b c = and_from (a.column == b.column) (meet (space_at g a.sp
     (and_from (meet (space_at g a.space) (space_at g b.space)) (modes_clash a.mode b.mode) (passes_some (has_point (space_at g b.space)) (points (space_at g a.space)) c.meet.0 ((points_are_listed (space_at g a.space) c.meet.0).1 c.meet.1) c.meet.2) c.clash)
 
 abbrev lines_test : GraphValue → ℕ → ℕ → Bool
-lines_test g i j = list_any (λ a. list_any (clash_test g a) (accesses g j)) (accesses g i)
+lines_test g i j = list_any (λ a. list_any (clash_test g a) (all_accesses g j)) (all_accesses g i)
 
 clash_passes : (g : GraphValue) (i j : ℕ) → LinesClash g false i j → lines_test g i j ≡ true
-clash_passes g i j c = passes_some (λ a. list_any (clash_test g a) (accesses g j)) (accesses g i) c.0 c.1
-    (passes_some (clash_test g c.0) (accesses g j) c.2.0 c.2.1 (and_from (accesses_conflict g c.0 c.2.0) (not (modes_commute c.0.mode c.2.0.mode)) (conflict_passes g c.0 c.2.0 c.2.2.conflict) c.2.2.counts))
+clash_passes g i j c = passes_some (λ a. list_any (clash_test g a) (all_accesses g j)) (all_accesses g i) c.0 c.1
+    (passes_some (clash_test g c.0) (all_accesses g j) c.2.0 c.2.1 (and_from (accesses_conflict g c.0 c.2.0) (not (modes_commute c.0.mode c.2.0.mode)) (conflict_passes g c.0 c.2.0 c.2.2.conflict) c.2.2.counts))
 
 pub lines_decided : (g : GraphValue) (i j : ℕ) → LinesClash g false i j ⊎ (LinesClash g false i j → ⊥)
 lines_decided g i j = elim (cases_Bool (lines_test g i j)) [
   | inl yes' ↦ (
-      let a = some_passes (λ a. list_any (clash_test g a) (accesses g j)) (accesses g i) yes' in
-      let b = some_passes (clash_test g a.0) (accesses g j) a.2 in
+      let a = some_passes (λ a. list_any (clash_test g a) (all_accesses g j)) (all_accesses g i) yes' in
+      let b = some_passes (clash_test g a.0) (all_accesses g j) a.2 in
       inl (a.0, a.1, (b.0, b.1, clash_from g a.0 b.0 b.2)))
   | inr no' ↦ inr (λ c. true≢false (sym (clash_passes g i j c) ∙ no'))
 ]

@@ -8,7 +8,7 @@ use Rattle.graph_terms.specs.declared.verb.Mode.{Mode}
 use Rattle.graph_terms.specs.declared.verb.Mode.TheVariants.{Read, Write, Sum, Least, Most}
 use Rattle.graph_terms.specs.Graph.{GraphValue, space_at}
 use Rattle.graph_terms.specs.Edges.{edges}
-use Rattle.graph_terms.specs.Access.{accesses, is_reduction, AccessesConflict, modes_clash}
+use Rattle.graph_terms.specs.Access.{all_accesses, is_reduction, AccessesConflict, modes_clash}
 use Rattle.graph_terms.specs.Fits.{IsGraph}
 use Rattle.graph_meaning.specs.Laws.{EdgesBetweenLines}
 use Rattle.graph_meaning.specs.Path.{Path, HasPath, last, first}
@@ -77,7 +77,7 @@ module _ (g : GraphValue) where
   not_apart i w a h (inr free) commute apart = free.1 apart.0 apart.2 apart.6
 
   -- what lines that are settled tell of two of their accesses
-  fine_by : (i j : ℕ) (a b : Access) → i ≢ j → Contains (accesses g i) a → Contains (accesses g j) b → AccessesConflict g a b → IsSettled g i j → IsFine g i j a b
+  fine_by : (i j : ℕ) (a b : Access) → i ≢ j → Contains (all_accesses g i) a → Contains (all_accesses g j) b → AccessesConflict g a b → IsSettled g i j → IsFine g i j a b
   fine_by i j a b apart ha hb c settled = elim (settled (record { different = apart; one = a; other = b; one_in = ha; other_in = hb; conflict = c })) [
     | inl path ↦ inl path
     | inr (inl back) ↦ inr (inl back)
@@ -85,7 +85,7 @@ module _ (g : GraphValue) where
   ]
 
   -- lines are settled where all their accesses that conflict are
-  settled_all : (i j : ℕ) → ((a b : Access) → Contains (accesses g i) a → Contains (accesses g j) b → AccessesConflict g a b → IsFine g i j a b) → IsSettled g i j
+  settled_all : (i j : ℕ) → ((a b : Access) → Contains (all_accesses g i) a → Contains (all_accesses g j) b → AccessesConflict g a b → IsFine g i j a b) → IsSettled g i j
   settled_all i j fine c = elim (fine c.one c.other c.one_in c.other_in c.conflict) [
     | inl path ↦ inl path
     | inr (inl back) ↦ inr (inl back)
@@ -136,11 +136,11 @@ module _ (g : GraphValue) (fits : IsGraph g) (between : EdgesBetweenLines) (line
   path_from_hard w u h b low high hard (inr (inr both)) = absurd (not_apart g (at u) (at w) b h hard (commute_back b.mode h.mode ∙ both.0) (apart_back g (at w) (at u) both.1))
 
   module _ (racing : List Bool) (answered : (u : ℕ) → u < length lines → AreAnsweredAt g lines racing u) (p : ℕ) (known : p < length lines) (with_noted : (r : ℕ) → is_noted racing r ≡ true → IsSettled g (at p) r)
-      (a : Access) (ha : Contains (accesses g (at p)) a) where
+      (a : Access) (ha : Contains (all_accesses g (at p)) a) where
     -- an access of line z that lies between two that conflict, and conflicts with each of them and with a
     record IsBetween (z : ℕ) (h k : Access) : Type 0 where
       access : Access
-      listed : Contains (accesses g z) access
+      listed : Contains (all_accesses g z) access
       hard : IsHard g z access.mode
       one : AccessesConflict g h access
       other : AccessesConflict g k access
@@ -185,7 +185,7 @@ module _ (g : GraphValue) (fits : IsGraph g) (between : EdgesBetweenLines) (line
     go_on y w h k low high (inl same) fine = subst (λ x. IsFine g (at x) (at w) a k) same.0 (subst (λ x. IsFine g (at y) (at w) x k) same.1 fine)
     go_on y w h k low high (inr hard) fine = inl (path_append hard.2 (path_from_hard y w h k low high hard.1 fine))
 
-    fine_ahead : (d y w : ℕ) (h k : Access) → y < w → w < length lines → w ≤ y + d → p ≤ y → Contains (accesses g (at y)) h → Contains (accesses g (at w)) k → AccessesConflict g h k → AccessesConflict g a k → IsAhead y h → IsFine g (at p) (at w) a k
+    fine_ahead : (d y w : ℕ) (h k : Access) → y < w → w < length lines → w ≤ y + d → p ≤ y → Contains (all_accesses g (at y)) h → Contains (all_accesses g (at w)) k → AccessesConflict g h k → AccessesConflict g a k → IsAhead y h → IsFine g (at p) (at w) a k
     fine_ahead zero y w h k low high near from hh hk c own ahead = absurd (omega arith)
     fine_ahead (suc d) y w h k low high near from hh hk c own ahead = elim (answered w high y h k low hh hk c) [
       | inl (inl settled) ↦ go_on y w h k low high ahead (fine_by g (at y) (at w) h k (λ same. placed.distinct y w low high same) hh hk c settled)
@@ -212,7 +212,7 @@ module _ (g : GraphValue) (fits : IsGraph g) (between : EdgesBetweenLines) (line
     go_back w y k h low high (inl same) fine = subst (λ x. IsFine g (at x) (at w) a k) same.0 (subst (λ x. IsFine g (at y) (at w) x k) same.1 (fine_back g (at w) (at y) k h fine))
     go_back w y k h low high (inr hard) fine = inr (inl (path_append (path_to_hard w y k h low high hard.1 fine) hard.2))
 
-    fine_behind : (d w y : ℕ) (k h : Access) → w < y → y ≤ p → y ≤ w + d → Contains (accesses g (at w)) k → Contains (accesses g (at y)) h → AccessesConflict g k h → AccessesConflict g a k → IsBehind y h → IsFine g (at p) (at w) a k
+    fine_behind : (d w y : ℕ) (k h : Access) → w < y → y ≤ p → y ≤ w + d → Contains (all_accesses g (at w)) k → Contains (all_accesses g (at y)) h → AccessesConflict g k h → AccessesConflict g a k → IsBehind y h → IsFine g (at p) (at w) a k
     fine_behind zero w y k h low to near hk hh c own behind = absurd (omega arith)
     fine_behind (suc d) w y k h low to near hk hh c own behind =
         let high : y < length lines = omega (arith, known) in

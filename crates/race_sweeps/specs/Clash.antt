@@ -2,7 +2,7 @@
 use Rattle.std.specs.Prelude.{◌≡◌, ℕ, Bool, true, not, ◌||◌, Contains}
 use Rattle.graph_terms.specs.declared.verb.Access.{Access}
 use Rattle.graph_terms.specs.Graph.{GraphValue}
-use Rattle.graph_terms.specs.Access.{accesses, AccessesConflict}
+use Rattle.graph_terms.specs.Access.{all_accesses, AccessesConflict}
 use Rattle.graph_meaning.specs.Rules.{modes_commute}
 
 -- two accesses conflict, other than by uses that commute unless these count too
@@ -12,4 +12,4 @@ pub record Clash (g : GraphValue) (commuting : Bool) (a b : Access) : Type 0 whe
 
 -- two lines have accesses that clash so
 abbrev pub LinesClash : GraphValue → Bool → ℕ → ℕ → Type 0
-LinesClash g commuting i j = (a : Access) × Contains (accesses g i) a × ((b : Access) × Contains (accesses g j) b × Clash g commuting a b)
+LinesClash g commuting i j = (a : Access) × Contains (all_accesses g i) a × ((b : Access) × Contains (all_accesses g j) b × Clash g commuting a b)

@@ -4,7 +4,7 @@ use Rattle.std.specs.Global.{Global}
 use Rattle.std.specs.List.{slice_index_or}
 use Rattle.graph_terms.specs.declared.verb.Access.{Access}
 use Rattle.graph_terms.specs.Graph.{GraphValue}
-use Rattle.graph_terms.specs.Access.{accesses, AccessesConflict}
+use Rattle.graph_terms.specs.Access.{all_accesses, AccessesConflict}
 
 -- what is kept for a number, where something is
 abbrev pub kept_at : List (Option ℕ) → ℕ → Option ℕ
@@ -35,7 +35,7 @@ pub record HasNumber (keys : List Access) (classes sites : List ℕ) (p : ℕ) (
 
 -- a number is that of an access of the line at its place
 abbrev pub AreOwn : GraphValue → List ℕ → List Access → List ℕ → List ℕ → Type 0
-AreOwn g lines keys classes sites = (r c : ℕ) (a : Access) → slice_get classes r ≡ Some c → slice_get keys c ≡ Some a → Contains (accesses g (slice_index lines (place_at sites r))) a
+AreOwn g lines keys classes sites = (r c : ℕ) (a : Access) → slice_get classes r ≡ Some c → slice_get keys c ≡ Some a → Contains (all_accesses g (slice_index lines (place_at sites r))) a
 
 -- each access has its number and its class, and nothing else has one
 pub record AreClasses (g : GraphValue) (lines : List ℕ) (keys : List Access) (classes sites begins : List ℕ) : Type 0 where
@@ -44,7 +44,7 @@ pub record AreClasses (g : GraphValue) (lines : List ℕ) (keys : List Access) (
   pub begin_count : length begins ≡ length lines + 1
   pub begin : (p : ℕ) → p ≤ length lines → IsBegin sites p (slice_index begins p)
   pub own : AreOwn g lines keys classes sites
-  pub each : (p : ℕ) (a : Access) → p < length lines → Contains (accesses g (slice_index lines p)) a → HasNumber keys classes sites p a
+  pub each : (p : ℕ) (a : Access) → p < length lines → Contains (all_accesses g (slice_index lines p)) a → HasNumber keys classes sites p a
   pub known : (r c : ℕ) → slice_get classes r ≡ Some c → c < length keys
   pub few : length keys ≤ length classes
   pub count : length classes ≤ 8 * length lines
@@ -57,7 +57,7 @@ pub record AreClassesTo (g : GraphValue) (lines : List ℕ) (keys : List Access)
   pub begin_count : length begins ≡ p + 1
   pub begin : (q : ℕ) → q ≤ p → IsBegin sites q (slice_index begins q)
   pub own : AreOwn g lines keys classes sites
-  pub each : (q m : ℕ) (a : Access) → q < length lines → (q < p) ⊎ ((q ≡ p) × (m < k)) → slice_get (accesses g (slice_index lines q)) m ≡ Some a → HasNumber keys classes sites q a
+  pub each : (q m : ℕ) (a : Access) → q < length lines → (q < p) ⊎ ((q ≡ p) × (m < k)) → slice_get (all_accesses g (slice_index lines q)) m ≡ Some a → HasNumber keys classes sites q a
   pub known : (r c : ℕ) → slice_get classes r ≡ Some c → c < length keys
   pub few : length keys ≤ length classes
   pub count : length classes ≤ 8 * p + k

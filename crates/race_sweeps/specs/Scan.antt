@@ -4,7 +4,7 @@ use Rattle.graph_terms.specs.declared.verb.Access.{Access}
 use Rattle.graph_terms.specs.declared.verb.Mode.{Mode}
 use Rattle.graph_terms.specs.declared.verb.Mode.TheVariants.{Read, Write}
 use Rattle.graph_terms.specs.Graph.{GraphValue}
-use Rattle.graph_terms.specs.Access.{accesses, is_reduction, AccessesConflict}
+use Rattle.graph_terms.specs.Access.{all_accesses, is_reduction, AccessesConflict}
 use Rattle.graph_meaning.specs.Rules.{Section, modes_commute}
 use Rattle.race_sweeps.specs.declared.marks.Mark.{Mark}
 use Rattle.race_sweeps.specs.declared.lookups.Table.{Table}
@@ -21,7 +21,7 @@ IsHard g i mode = (mode ≡ Write) ⊎ ((is_reduction mode ≡ true) × ((l q : 
 -- line i has such an access of a column and a space
 pub record HasHard (g : GraphValue) (i column space : ℕ) : Type 0 where
   pub access : Access
-  pub listed : Contains (accesses g i) access
+  pub listed : Contains (all_accesses g i) access
   pub column_is : access.column ≡ column
   pub space_is : access.space ≡ space
   pub hard : IsHard g i access.mode
@@ -64,4 +64,4 @@ IsAnswered g lines racing x u a b = IsSettledOrNoted g racing (slice_index lines
 
 -- all conflicts of the line at place u with lines before it are answered for
 abbrev pub AreAnsweredAt : GraphValue → List ℕ → List Bool → ℕ → Type 0
-AreAnsweredAt g lines racing u = (x : ℕ) (a b : Access) → x < u → Contains (accesses g (slice_index lines x)) a → Contains (accesses g (slice_index lines u)) b → AccessesConflict g a b → IsAnswered g lines racing x u a b
+AreAnsweredAt g lines racing u = (x : ℕ) (a b : Access) → x < u → Contains (all_accesses g (slice_index lines x)) a → Contains (all_accesses g (slice_index lines u)) b → AccessesConflict g a b → IsAnswered g lines racing x u a b

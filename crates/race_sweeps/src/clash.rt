@@ -3,19 +3,17 @@
 ghost use Rattle.std.specs.Prelude.{◌≡◌, ℕ, ◌<◌, ◌||◌, ◌↔◌, not, length, Contains, IsTrue};
 ghost use Rattle.graph_terms.specs.declared.verb.Access.{Access};
 ghost use Rattle.graph_terms.specs.Graph.{named_spaces};
-ghost use Rattle.graph_terms.specs.Access.{accesses, modes_clash, is_reduction};
+ghost use Rattle.graph_terms.specs.Access.{all_accesses, modes_clash, is_reduction};
 ghost use Rattle.graph_meaning.specs.Rules.{modes_commute};
 ghost use Rattle.race_sweeps.specs.Clash.{Clash, LinesClash};
 ghost use Rattle.race_sweeps.specs.Held.{IsHeld};
 ghost use Rattle.race_sweeps.specs.Settled.{IsSettled};
 
 use crate::line_sections::Held;
-use graph_meaning::line_laws::accesses_fit;
+use graph_meaning::line_laws::all_accesses_fit;
 use graph_model::graph::Graph;
+pub use graph_terms::limits::MAX_CALL_ACCESSES;
 use graph_terms::verb::{Access, Mode};
-
-/// How many accesses a line has at most.
-pub const MOST_ACCESSES: u32 = 8;
 
 /// Whether two lines do not conflict, or by uses that commute alone and in sections of two
 /// different acquires of one reservation, not both shared.
@@ -40,10 +38,10 @@ fn lines_clash(graph: &Graph, one: u32, other: u32, commuting: bool) -> bool
     requires other { other < length graph.now.lines }
     ensures { IsTrue result ↔ LinesClash graph.now commuting one other }
 {
-    accesses_fit();
+    all_accesses_fit();
     let _ = graph.lines();
-    for k in 0..MOST_ACCESSES {
-        let Some(access) = graph.access(one, k) else {
+    for k in 0..MAX_CALL_ACCESSES {
+        let Some(access) = graph.any_access(one, k) else {
             return false;
         };
         if clashes_with(graph, access, other, commuting) {
@@ -57,12 +55,12 @@ fn lines_clash(graph: &Graph, one: u32, other: u32, commuting: bool) -> bool
 fn clashes_with(graph: &Graph, one: Access, line: u32, commuting: bool) -> bool
     requires one { one.space < length (named_spaces graph.now) }
     requires line { line < length graph.now.lines }
-    ensures { IsTrue result ↔ ((b : Access) × Contains (accesses graph.now line) b × Clash graph.now commuting one b) }
+    ensures { IsTrue result ↔ ((b : Access) × Contains (all_accesses graph.now line) b × Clash graph.now commuting one b) }
 {
-    accesses_fit();
+    all_accesses_fit();
     let _ = graph.lines();
-    for k in 0..MOST_ACCESSES {
-        let Some(other) = graph.access(line, k) else {
+    for k in 0..MAX_CALL_ACCESSES {
+        let Some(other) = graph.any_access(line, k) else {
             return false;
         };
         if clash(graph, one, other, commuting) {

@@ -6,7 +6,7 @@ ghost use Rattle.graph_terms.specs.Graph.{GraphValue};
 ghost use Rattle.race_sweeps.specs.Classes.{AreClasses, AreClassesTo};
 ghost use Rattle.race_sweeps.specs.Placed.{IsPlaced};
 
-use crate::clash::MOST_ACCESSES;
+use crate::clash::MAX_CALL_ACCESSES;
 use graph_model::graph::Graph;
 use graph_terms::verb::{Access, Mode};
 use index_spaces::NoMemory;
@@ -106,8 +106,8 @@ impl Classing {
     {
         let _ = graph.lines();
         let line = order[place as usize];
-        for k in 0..MOST_ACCESSES {
-            let Some(access) = graph.access(line, k) else {
+        for k in 0..MAX_CALL_ACCESSES {
+            let Some(access) = graph.any_access(line, k) else {
                 return Ok(());
             };
             let class = self.class_of(access)?;

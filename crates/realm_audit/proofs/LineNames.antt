@@ -89,6 +89,7 @@ other_at : (g : GraphValue) → IsGraph g → (o : Option Found) → ((j : ℕ) 
 other_at g f None n i l e h = unused g i l e h
 other_at g f (Some (found.Space s)) n i l e h = undeclared g f i l e (found.Space s) (λ before. h)
 other_at g f (Some (found.Inst s)) n i l e h = undeclared g f i l e (found.Inst s) (λ before. h)
+other_at g f (Some (found.Data s)) n i l e h = undeclared g f i l e (found.Data s) (λ before. h)
 other_at g f (Some (found.Lock s)) n i l e h = undeclared g f i l e (found.Lock s) (λ before. h)
 other_at g f (Some (found.Barrier s)) n i l e h = undeclared g f i l e (found.Barrier s) (λ before. h)
 other_at g f (Some (found.Line j)) n i l e h = n j refl

@@ -70,6 +70,8 @@ misuse_number misuses.Performed = 20
 misuse_number misuses.Filled = 21
 misuse_number misuses.OtherThread = 23
 misuse_number misuses.Forgotten = 24
+misuse_number misuses.NoBody = 25
+misuse_number misuses.CallsLeft = 26
 
 abbrev pub misuse_line : Misuse → List ℕ
 misuse_line misuses.Wrong = codes "the handle holds another kind of thing than the call asks for"
@@ -85,6 +87,8 @@ misuse_line misuses.Performed = codes "the work was performed before"
 misuse_line misuses.Filled = codes "the handle that is to be filled holds something"
 misuse_line misuses.OtherThread = codes "the closed table stays with the thread that closed it"
 misuse_line misuses.Forgotten = codes "the loop has left an operation that comes"
+misuse_line misuses.NoBody = codes "a call of the graph has a word that is not in the table"
+misuse_line misuses.CallsLeft = codes "operations are left of a graph with calls"
 
 -- the line on a number that no answer has
 abbrev pub unknown_line : List ℕ

@@ -25,4 +25,4 @@ IsWord kind n word = ((kind ≡ 0) × IsReasonWord n word) ⊎ (((kind ≡ 1) ×
 
 -- there is a word of this kind and number
 abbrev pub HasWord : ℕ → ℕ → Type 0
-HasWord kind n = ((kind ≡ 0) × (1 ≤ n) × (n ≤ 14)) ⊎ (((kind ≡ 1) × (1 ≤ n) × (n ≤ 6)) ⊎ ((kind ≡ 2) × (1 ≤ n) × (n ≤ 5)))
+HasWord kind n = ((kind ≡ 0) × (1 ≤ n) × (n ≤ 15)) ⊎ (((kind ≡ 1) × (1 ≤ n) × (n ≤ 6)) ⊎ ((kind ≡ 2) × (1 ≤ n) × (n ≤ 5)))

@@ -9,9 +9,10 @@ ghost use Rattle.realm_c.specs.declared.messages.Misuse.{Misuse as TheMisuse};
 
 use c_answers::buffer::hand_out;
 use c_answers::status::{
-    BUSY_COLUMN, BUSY_LOCK, DONE, EMPTY, FILLED, FORGOTTEN, FULL, IN_USE, NEVER, NO_MEMORY,
-    NO_ROOM, NONE, NOT_YET, OTHER_RUN, OTHER_THREAD, OVER, PERFORMED, RANGE, REPORTED, SLOTS,
-    TOO_LONG, UNFIT, UNLAWFUL, UNPERFORMED, UNREAD, USAGE, USED_UP, WORK_OUT, WRONG,
+    BUSY_COLUMN, BUSY_LOCK, CALLS_LEFT, DONE, EMPTY, FILLED, FORGOTTEN, FULL, IN_USE, NEVER,
+    NO_BODY, NO_MEMORY, NO_ROOM, NONE, NOT_YET, OTHER_RUN, OTHER_THREAD, OVER, PERFORMED, RANGE,
+    REPORTED, SLOTS, TOO_LONG, UNFIT, UNLAWFUL, UNPERFORMED, UNREAD, USAGE, USED_UP, WORK_OUT,
+    WRONG,
 };
 
 /// What a call on texts answers.
@@ -59,6 +60,8 @@ pub(crate) enum Misuse {
     Filled,
     OtherThread,
     Forgotten,
+    NoBody,
+    CallsLeft,
 }
 
 /// Puts a line on an answer of the calls on texts, or on misuse, into `out` with its length beside it: 0; 6 exactly where
@@ -170,6 +173,8 @@ fn misuse_of(status: u32) -> Option<Misuse>
         FILLED => Some(Misuse::Filled),
         OTHER_THREAD => Some(Misuse::OtherThread),
         FORGOTTEN => Some(Misuse::Forgotten),
+        NO_BODY => Some(Misuse::NoBody),
+        CALLS_LEFT => Some(Misuse::CallsLeft),
         _ => None,
     }
 }
@@ -229,6 +234,8 @@ impl Misuse {
             Misuse::Filled => b"the handle that is to be filled holds something",
             Misuse::OtherThread => b"the closed table stays with the thread that closed it",
             Misuse::Forgotten => b"the loop has left an operation that comes",
+            Misuse::NoBody => b"a call of the graph has a word that is not in the table",
+            Misuse::CallsLeft => b"operations are left of a graph with calls",
         }
     }
 }

@@ -48,8 +48,8 @@ fn word_of(kind: u32, number: u32) -> Option<&'static [u8]>
 /// The word of a reason, of which 14 is that for the text of a trace.
 fn reason_word(number: u32) -> Option<&'static [u8]>
     ensures some { IfSome result (λ word. IsReasonWord number word.now) }
-    ensures has { IfSome result (λ _. (1 ≤ number) × (number ≤ 14)) }
-    ensures none { IfNone result ((1 ≤ number) × (number ≤ 14) → ⊥) }
+    ensures has { IfSome result (λ _. (1 ≤ number) × (number ≤ 15)) }
+    ensures none { IfNone result ((1 ≤ number) × (number ≤ 15) → ⊥) }
 {
     if number == TRACE {
         return Some(b"trace");
@@ -63,8 +63,8 @@ fn reason_word(number: u32) -> Option<&'static [u8]>
 /// The reason with this number.
 fn why_by(number: u32) -> Option<Why>
     ensures some { IfSome result (λ why. number ≡ why_number why) }
-    ensures has { IfSome result (λ _. (1 ≤ number) × (number ≤ 13)) }
-    ensures none { IfNone result ((1 ≤ number) × (number ≤ 13) → ⊥) }
+    ensures has { IfSome result (λ _. (1 ≤ number) × (number ≤ 15)) }
+    ensures none { IfNone result ((1 ≤ number) × (number ≤ 15) × (number ≢ 14) → ⊥) }
 {
     match number {
         1 => Some(Why::Header),
@@ -80,6 +80,7 @@ fn why_by(number: u32) -> Option<Why>
         11 => Some(Why::Limit),
         12 => Some(Why::Missing),
         13 => Some(Why::Rest),
+        15 => Some(Why::Meets),
         _ => None,
     }
 }

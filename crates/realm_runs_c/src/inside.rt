@@ -24,7 +24,7 @@ use std::alloc::Global;
 use std::sync::Arc;
 
 /// What is answered to a value that is no run which goes on.
-fn run_misuse(token: &Token) -> u32
+pub(crate) fn run_misuse(token: &Token) -> u32
     ensures { result ≡ run_misuse (Some token.now) }
 {
     match token {
@@ -35,7 +35,7 @@ fn run_misuse(token: &Token) -> u32
 }
 
 /// What is answered to a value that is no work to be performed.
-fn taken_misuse(token: &Token) -> u32
+pub(crate) fn taken_misuse(token: &Token) -> u32
     ensures { result ≡ taken_misuse (Some token.now) }
 {
     match token {

@@ -1,6 +1,7 @@
 //! Runs of graphs, for callers in C, whose threads perform the lines.
 #![tactic(auto)]
 
+mod calls;
 mod held;
 mod inside;
 mod run;

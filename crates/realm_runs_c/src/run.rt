@@ -6,7 +6,9 @@ ghost use Rattle.run_core.specs.Finishing.{NothingOut};
 ghost use Rattle.run_core.specs.Resting.{core_by, RestsBy};
 ghost use Rattle.realm_runs_c.specs.Runs.{lines_of};
 
+use crate::calls::call_at;
 use crate::token::Over;
+use graph_terms::call::Call;
 use race_check::checked::Checked;
 use run_core::{Attempt, Core, Finished, Issue, MAX_SLOTS, Resting, Stage};
 use std::alloc::Global;
@@ -61,7 +63,7 @@ impl Lines {
 }
 
 impl Run {
-    ghost use Rattle.std.specs.Prelude.{◌≡◌, ◌≢◌, ℕ, ◌<◌, ◌≤◌, ◌↔◌, [], length, IfOk, IfSome, IfNone};
+    ghost use Rattle.std.specs.Prelude.{◌≡◌, ◌≢◌, ℕ, ◌<◌, ◌≤◌, ◌↔◌, [], length, option_map, IfOk, IfSome, IfNone};
     ghost use Rattle.std.specs.Arc.{arc_value};
     ghost use Rattle.run_core.specs.Core.{CoreValue, IsCore, slots_given, unissued};
     ghost use Rattle.run_core.specs.Finishing.{NothingOut};
@@ -69,6 +71,7 @@ impl Run {
     ghost use Rattle.run_core.specs.WhatIsOut.{OneMoreOut, OutAfter, SameOut};
     ghost use Rattle.run_core.specs.Works.{IsFinished, KeepsWork};
     ghost use Rattle.realm_runs_c.specs.Runs.{lines_of};
+    ghost use Rattle.realm_runs_c.specs.Calls.{call_at};
 
     /// A run in which no line is issued. None comes where memory ran out.
     pub(crate) fn begin(alloc: Global, checked: Checked, slots: u32) -> Option<Run>
@@ -97,6 +100,13 @@ impl Run {
         ensures { result ≡ length self.now.graph.lines }
     {
         self.graph.graph().lines()
+    }
+
+    /// The call that a line is.
+    pub(crate) fn call_at(&self, line: u32) -> Option<&Call>
+        ensures { option_map (λ c. c.now) result ≡ call_at self.now.graph line }
+    {
+        call_at(self.graph.graph(), line)
     }
 
     /// Issues the next line.

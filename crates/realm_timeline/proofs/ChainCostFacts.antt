@@ -155,9 +155,9 @@ module _ (g : GraphValue) (order : List ℕ) (is : IsOrder g order) (costs : Lis
             subst (λ z. b.0 ≤ z) i.2 (best.lowest i.0 i.1 val'))),
       )
 
-  best_small : (o : Option (ℕ × ℕ)) → IsBestOf (chain_cost_at costs) (edges_into g line) o → best_cost o ≤ 17179869184 * n
+  best_small : (o : Option (ℕ × ℕ)) → IsBestOf (chain_cost_at costs) (edges_into g line) o → best_cost o ≤ 68719476736 * n
   best_small None b = omega arith
-  best_small (Some b) best = let f : chain_cost_at costs b.0 ≤ 17179869184 * n = h.few b.0 in let c : chain_cost_at costs b.0 ≡ b.1 = best.cost in omega arith
+  best_small (Some b) best = let f : chain_cost_at costs b.0 ≤ 68719476736 * n = h.few b.0 in let c : chain_cost_at costs b.0 ≡ b.1 = best.cost in omega arith
 
   more : take (n + 1) order ≡ take n order ++ line ∷ []
   more = take_more order n 0 inside ∙ ap (λ z. take n order ++ z ∷ []) (sym at)
@@ -183,10 +183,10 @@ module _ (g : GraphValue) (order : List ℕ) (is : IsOrder g order) (costs : Lis
     few = λ i. elim (cases_eq i line) [
       | inl e ↦ (
           let v : chain_cost_at costs' i ≡ best_cost w.best + cost g line = ap (chain_cost_at costs') e ∙ here in
-          let b : best_cost w.best ≤ 17179869184 * n = best_small w.best w.is_best in
-          let c : cost g line ≤ 17179869184 = w.few in
+          let b : best_cost w.best ≤ 68719476736 * n = best_small w.best w.is_best in
+          let c : cost g line ≤ 68719476736 = w.few in
           omega arith)
-      | inr apart ↦ (let v : chain_cost_at costs' i ≡ chain_cost_at costs i = there i apart in let f : chain_cost_at costs i ≤ 17179869184 * n = h.few i in omega arith)
+      | inr apart ↦ (let v : chain_cost_at costs' i ≡ chain_cost_at costs i = there i apart in let f : chain_cost_at costs i ≤ 68719476736 * n = h.few i in omega arith)
     ];
   }
 
@@ -556,6 +556,6 @@ option_read (x ∷ xs) zero o e h = sym e
 option_read (x ∷ xs) (suc i) o e h = option_read xs i o e (omega arith)
 
 -- a cost fits a word
-pub best_fits : (costs : List ℕ) (es : List Edge) (best : Option (ℕ × ℕ)) (c : ℕ) → ((i : ℕ) → chain_cost_at costs i ≤ 1125899906842624) → IsBestOf (chain_cost_at costs) es best → c ≤ 17179869184 → MatchOption best (c < 18446744073709551616) (λ b. b.1 + c < 18446744073709551616)
+pub best_fits : (costs : List ℕ) (es : List Edge) (best : Option (ℕ × ℕ)) (c : ℕ) → ((i : ℕ) → chain_cost_at costs i ≤ 4503599627370496) → IsBestOf (chain_cost_at costs) es best → c ≤ 68719476736 → MatchOption best (c < 18446744073709551616) (λ b. b.1 + c < 18446744073709551616)
 best_fits costs es None c few best small = omega arith
-best_fits costs es (Some b) c few best small = let f : chain_cost_at costs b.0 ≤ 1125899906842624 = few b.0 in let e : chain_cost_at costs b.0 ≡ b.1 = best.cost in omega arith
+best_fits costs es (Some b) c few best small = let f : chain_cost_at costs b.0 ≤ 4503599627370496 = few b.0 in let e : chain_cost_at costs b.0 ≡ b.1 = best.cost in omega arith

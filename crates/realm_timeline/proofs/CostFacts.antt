@@ -10,27 +10,27 @@ use Rattle.graph_terms.specs.declared.verb.Verb.{Verb}
 use Rattle.graph_terms.specs.declared.verb.Verb.TheVariants.{Release}
 use Rattle.graph_terms.specs.Graph.{GraphValue, verb_at, is_acquire_of}
 use Rattle.graph_terms.specs.Fits.{IsGraph}
-use Rattle.graph_terms.specs.Access.{accesses}
+use Rattle.graph_terms.specs.Access.{all_accesses}
 use Rattle.graph_terms.specs.Reservations.{Releases}
 use Rattle.graph_terms.proofs.Public.{is_release_from, passes_below, release_names}
 use Rattle.realm_timeline.specs.Plan.{access_size, cost}
 
 -- the cost after k accesses
 pub record CostUpTo (g : GraphValue) (i k c : ℕ) : Type 0 where
-  pub cost : c ≡ 1 + sum_by (access_size g) (take k (accesses g i))
+  pub cost : c ≡ 1 + sum_by (access_size g) (take k (all_accesses g i))
   pub few : c ≤ 1 + 4294967296 * k
 
-pub cost_more : (g : GraphValue) (i k c n : ℕ) (a : Access) → CostUpTo g i k c → slice_get (accesses g i) k ≡ Some a → n ≡ access_size g a → n ≤ 4294967296 → CostUpTo g i (k + 1) (c + n)
+pub cost_more : (g : GraphValue) (i k c n : ℕ) (a : Access) → CostUpTo g i k c → slice_get (all_accesses g i) k ≡ Some a → n ≡ access_size g a → n ≤ 4294967296 → CostUpTo g i (k + 1) (c + n)
 cost_more g i k c n a up at is few =
-    let inside : k < length (accesses g i) = slice_get_within (accesses g i) k a at in
-    let more = take_more (accesses g i) k a inside ∙ ap (λ x. take k (accesses g i) ++ x ∷ []) (get_or_from_slice_get (accesses g i) k a a at) in
-    let sum : sum_by (access_size g) (take (k + 1) (accesses g i)) ≡ sum_by (access_size g) (take k (accesses g i)) + access_size g a = ap (sum_by (access_size g)) more ∙ sum_by_push (access_size g) (take k (accesses g i)) a in
-    let up_to_now : c ≡ 1 + sum_by (access_size g) (take k (accesses g i)) = up.cost in
+    let inside : k < length (all_accesses g i) = slice_get_within (all_accesses g i) k a at in
+    let more = take_more (all_accesses g i) k a inside ∙ ap (λ x. take k (all_accesses g i) ++ x ∷ []) (get_or_from_slice_get (all_accesses g i) k a a at) in
+    let sum : sum_by (access_size g) (take (k + 1) (all_accesses g i)) ≡ sum_by (access_size g) (take k (all_accesses g i)) + access_size g a = ap (sum_by (access_size g)) more ∙ sum_by_push (access_size g) (take k (all_accesses g i)) a in
+    let up_to_now : c ≡ 1 + sum_by (access_size g) (take k (all_accesses g i)) = up.cost in
     let bound : c ≤ 1 + 4294967296 * k = up.few in
     record { cost = omega arith; few = omega arith }
 
-pub cost_whole : (g : GraphValue) (i k c : ℕ) → CostUpTo g i k c → length (accesses g i) ≤ k → c ≡ cost g i
-cost_whole g i k c up few = up.cost ∙ ap (λ xs. 1 + sum_by (access_size g) xs) (take_all k (accesses g i) few)
+pub cost_whole : (g : GraphValue) (i k c : ℕ) → CostUpTo g i k c → length (all_accesses g i) ≤ k → c ≡ cost g i
+cost_whole g i k c up few = up.cost ∙ ap (λ xs. 1 + sum_by (access_size g) xs) (take_all k (all_accesses g i) few)
 
 -- where no access of number k is read, there are at most k
 pub no_more : (xs : List Access) (k : ℕ) → slice_get xs k ≡ None → length xs ≤ k

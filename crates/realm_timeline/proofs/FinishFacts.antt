@@ -100,10 +100,10 @@ module _ (g : GraphValue) (p : ℕ) (s new : State) (next : ℕ) (r : HasStarted
             time = (
                 let f : n.slot.finish ≡ next = n.finish in
                 let t : new.time ≡ next = time in
-                let b : n.slot.finish + 17179869184 * undone s.done (length g.lines) ≤ 17179869184 * length g.lines + 17179869184 = r.simulation.small.finishes n.line n.slot n.has n.runs in
+                let b : n.slot.finish + 68719476736 * undone s.done (length g.lines) ≤ 68719476736 * length g.lines + 68719476736 = r.simulation.small.finishes n.line n.slot n.has n.runs in
                 omega arith);
             finishes = λ i y h unf. (
-                let b : y.finish + 17179869184 * undone s.done (length g.lines) ≤ 17179869184 * length g.lines + 17179869184 = r.simulation.small.finishes i y (subst (λ xs. HasSlot xs i y) slots h) (was_undone i unf) in
+                let b : y.finish + 68719476736 * undone s.done (length g.lines) ≤ 68719476736 * length g.lines + 68719476736 = r.simulation.small.finishes i y (subst (λ xs. HasSlot xs i y) slots h) (was_undone i unf) in
                 omega arith);
           };
         },

@@ -224,13 +224,13 @@ module _ (g : GraphValue) (graph : IsGraph g) (accepted : Accepted g) (p : ℕ) 
       };
       lowest_first = record { lower = lower; excludes = excludes };
       small = record {
-        time = subst (λ xs. new.time + 17179869184 * undone xs (length g.lines) ≤ 17179869184 * length g.lines) (sym st.done) (subst (λ u. u + 17179869184 * undone s.done (length g.lines) ≤ 17179869184 * length g.lines) (sym st.time) simulation.small.time);
-        finishes = λ k y h unf. subst (λ xs. y.finish + 17179869184 * undone xs (length g.lines) ≤ 17179869184 * length g.lines + 17179869184) (sym st.done)
+        time = subst (λ xs. new.time + 68719476736 * undone xs (length g.lines) ≤ 68719476736 * length g.lines) (sym st.done) (subst (λ u. u + 68719476736 * undone s.done (length g.lines) ≤ 68719476736 * length g.lines) (sym st.time) simulation.small.time);
+        finishes = λ k y h unf. subst (λ xs. y.finish + 68719476736 * undone xs (length g.lines) ≤ 68719476736 * length g.lines + 68719476736) (sym st.done)
             (elim (slot_case k y h) [
               | inl here ↦ (
                   let a : y.finish ≡ s.time + cost g line = ap (λ (z : Slot). z.finish) here.1 in
-                  let b : cost g line ≤ 17179869184 = st.few in
-                  let c : s.time + 17179869184 * undone s.done (length g.lines) ≤ 17179869184 * length g.lines = simulation.small.time in
+                  let b : cost g line ≤ 68719476736 = st.few in
+                  let c : s.time + 68719476736 * undone s.done (length g.lines) ≤ 68719476736 * length g.lines = simulation.small.time in
                   omega arith)
               | inr there ↦ simulation.small.finishes k y there (subst (λ xs. is_done xs k ≡ false) st.done unf)
             ]);

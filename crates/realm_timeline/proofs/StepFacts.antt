@@ -57,7 +57,7 @@ marks_other g old new processor line none queues time slots order left running d
 
 -- a line starts
 pub starts_with : (g : GraphValue) (old new : State) (place processor line : ℕ) (between : List QueueValue) → has_line (queue_at old.queues place).lines line ≡ true → ((i : ℕ) → has_line (queue_at old.queues place).lines i ≡ true → line ≤ i) →
-    ChangesQueue old.queues between place (WithoutLine line) → AddsHolder g between new.queues line → length new.queues ≡ length old.queues → cost g line ≤ 17179869184 →
+    ChangesQueue old.queues between place (WithoutLine line) → AddsHolder g between new.queues line → length new.queues ≡ length old.queues → cost g line ≤ 68719476736 →
     new.time ≡ old.time → new.slots ≡ slice_set old.slots line (Some (slot_of g old processor line)) → new.order ≡ old.order ++ line ∷ [] → new.done ≡ old.done → new.left ≡ old.left → new.running ≡ slice_set old.running processor (Some line) →
     Starts g old new place processor line
 starts_with g old new place processor line between listed lowest taken holds count few time slots order done left running = record {

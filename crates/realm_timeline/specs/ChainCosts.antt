@@ -46,7 +46,7 @@ pub record AreChainCosts (g : GraphValue) (order : List ℕ) (chain_costs : List
   pub before_count : length before ≡ length g.lines
   pub each : (i : ℕ) → Contains (take n order) i → IsCostliestTo g i (chain_cost_at chain_costs i) × IsBefore g chain_costs i (before_at before i)
   pub none : (i : ℕ) → (Contains (take n order) i → ⊥) → chain_cost_at chain_costs i ≡ 0
-  pub few : (i : ℕ) → chain_cost_at chain_costs i ≤ 17179869184 * n
+  pub few : (i : ℕ) → chain_cost_at chain_costs i ≤ 68719476736 * n
 
 -- in a list each line but the first has the one before it as its entry in the table
 abbrev pub IsLinked : List (Option ℕ) → List ℕ → Type 0
@@ -96,7 +96,7 @@ pub record AddsLine (g : GraphValue) (costs : List ℕ) (before : List (Option �
   pub is_best : IsBestOf (chain_cost_at costs) (edges_into g line) best
   pub costs_are : costs' ≡ slice_set costs line (best_cost best + cost g line)
   pub before_are : before' ≡ slice_set before line (best_line best)
-  pub few : cost g line ≤ 17179869184
+  pub few : cost g line ≤ 68719476736
 
 -- the line with the costlier chain of two, the lower where the costs are the same
 abbrev pub IsBetter : Option (ℕ × ℕ) → ℕ → ℕ → ℕ × ℕ → Type 0

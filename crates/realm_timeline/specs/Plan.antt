@@ -9,7 +9,7 @@ use Rattle.graph_terms.specs.declared.verb.Edge.{Edge}
 use Rattle.graph_terms.specs.Graph.{GraphValue, space_at}
 use Rattle.graph_terms.specs.Edges.{edges}
 use Rattle.graph_meaning.specs.Path.{Reached}
-use Rattle.graph_terms.specs.Access.{accesses}
+use Rattle.graph_terms.specs.Access.{all_accesses}
 use Rattle.graph_terms.specs.Reservations.{Acquires, Releases, both_shared}
 use Rattle.realm_timeline.specs.declared.slot.Slot.{Slot}
 
@@ -17,9 +17,9 @@ use Rattle.realm_timeline.specs.declared.slot.Slot.{Slot}
 abbrev pub access_size : GraphValue → Access → ℕ
 access_size g a = space_size (space_at g a.space)
 
--- how long a line takes: 1, and 1 more for each point of each access
+-- how long a line takes: 1, and 1 more for each point of each access, those to data counted too
 abbrev pub cost : GraphValue → ℕ → ℕ
-cost g i = 1 + sum_by (access_size g) (accesses g i)
+cost g i = 1 + sum_by (access_size g) (all_accesses g i)
 
 -- the lines to plan: those that no line which never comes reaches
 pub record Planned (g : GraphValue) (i : ℕ) : Type 0 where

@@ -140,10 +140,10 @@ pub record StartsLowestFirst (g : GraphValue) (s : State) : Type 0 where
 abbrev pub undone : List Bool → ℕ → ℕ
 undone done n = count_below (λ k. not (is_done done k)) n
 
--- no time is above 2 ^ 50, since no line takes more than 2 ^ 34
+-- no time is above 2 ^ 52, since no line takes more than 2 ^ 36
 pub record HasSmallTimes (s : State) (n : ℕ) : Type 0 where
-  pub time : s.time + 17179869184 * undone s.done n ≤ 17179869184 * n
-  pub finishes : (k : ℕ) (x : Slot) → HasSlot s.slots k x → is_done s.done k ≡ false → x.finish + 17179869184 * undone s.done n ≤ 17179869184 * n + 17179869184
+  pub time : s.time + 68719476736 * undone s.done n ≤ 68719476736 * n
+  pub finishes : (k : ℕ) (x : Slot) → HasSlot s.slots k x → is_done s.done k ≡ false → x.finish + 68719476736 * undone s.done n ≤ 68719476736 * n + 68719476736
 
 -- what holds of a simulation between two steps
 pub record IsSimulation (g : GraphValue) (processors : ℕ) (s : State) : Type 0 where

@@ -87,7 +87,7 @@ pub record Starts (g : GraphValue) (old new : State) (place processor line : ℕ
   pub running : new.running ≡ slice_set old.running processor (Some line)
   pub queue_count : length new.queues ≡ length old.queues
   pub queues : (between : List QueueValue) × ChangesQueue old.queues between place (WithoutLine line) × AddsHolder g between new.queues line
-  pub few : cost g line ≤ 17179869184
+  pub few : cost g line ≤ 68719476736
 
 -- one edge more into each line, which is counted until the line is offered for the first time
 abbrev pub first_edges : GraphValue → List Edge

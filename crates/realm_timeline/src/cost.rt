@@ -7,23 +7,24 @@ ghost use Rattle.graph_terms.specs.Graph.{locks, verb_at};
 ghost use Rattle.graph_terms.specs.declared.verb.Verb.TheVariants.{Acquire as AcquireOf};
 ghost use Rattle.graph_terms.specs.Reservations.{Releases};
 
-use graph_meaning::line_laws::{accesses_are_few, accesses_fit};
+use graph_meaning::line_laws::{all_accesses_are_few, all_accesses_fit};
 use graph_model::graph::Graph;
-use graph_terms::limits::{MAX_LOCKS_OF_THREE, MOST_ACCESSES};
+use graph_terms::limits::{MAX_CALL_ACCESSES, MAX_LOCKS_OF_THREE};
 use graph_terms::verb::Verb;
 
-/// How long a line takes in virtual time: 1, and 1 more for each point of each access.
+/// How long a line takes in virtual time: 1, and 1 more for each point of each access, those to data
+/// counted too.
 pub(crate) fn cost_of(graph: &Graph, line: u32) -> u64
     requires { line < length graph.now.lines }
     ensures cost { result ≡ cost graph.now line }
-    ensures few { result ≤ 17179869184 }
+    ensures few { result ≤ 68719476736 }
 {
-    accesses_fit();
-    accesses_are_few();
+    all_accesses_fit();
+    all_accesses_are_few();
     let _ = graph.lines();
     let mut cost: u64 = 1;
-    for k in 0..MOST_ACCESSES {
-        let Some(access) = graph.access(line, k) else {
+    for k in 0..MAX_CALL_ACCESSES {
+        let Some(access) = graph.any_access(line, k) else {
             return cost;
         };
         cost += graph.space(access.space).size();

@@ -65,7 +65,7 @@ impl ChainCosts {
         requires line { line < length graph.now.lines }
         requires costs { length self.old.costs.items ≡ length graph.now.lines }
         requires before { length self.old.before.items ≡ length graph.now.lines }
-        requires few { (i : ℕ) → chain_cost_at self.old.costs.items i ≤ 1125899906842624 }
+        requires few { (i : ℕ) → chain_cost_at self.old.costs.items i ≤ 4503599627370496 }
         ensures { AddsLine graph.now self.old.costs.items self.old.before.items self.new.costs.items self.new.before.items line }
     {
         edges_between_lines();

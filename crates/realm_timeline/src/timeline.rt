@@ -180,7 +180,7 @@ fn planned_cost(graph: &Graph, slots: &[Option<Slot>], line: u32) -> u64
     requires known { line < length graph.now.lines }
     requires slots { length slots.now ≡ length graph.now.lines }
     ensures cost { result ≡ planned_cost graph.now slots.now line }
-    ensures few { result ≤ 17179869184 }
+    ensures few { result ≤ 68719476736 }
 {
     match slots[line as usize] {
         Some(_) => cost_of(graph, line),

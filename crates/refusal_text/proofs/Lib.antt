@@ -1,2 +1,3 @@
 mod RefusalFacts
 mod PairFacts
+mod OrderFacts

@@ -10,8 +10,11 @@ use Rattle.graph_terms.specs.declared.verb.Mode.TheVariants.{Read, Write, Sum, L
 use Rattle.graph_terms.specs.declared.format.Format.TheVariants.{Three}
 use Rattle.graph_terms.specs.Format.{has_since}
 use Rattle.graph_terms.specs.Graph.{GraphValue}
-use Rattle.graph_terms.specs.Spelling.{line_name, lock_name, column_name}
+use Rattle.graph_terms.specs.declared.decl.ColumnInfo.{ColumnInfo}
+use Rattle.graph_terms.specs.Spelling.{line_name, lock_name}
 use Rattle.graph_terms.specs.Reservations.{lock_at, both_shared}
+use Rattle.graph_model.specs.Columns.{all_columns}
+use Rattle.refusal_text.specs.Orders.{lines_need_order}
 use Rattle.explanations.specs.declared.meetings.Meeting.{Meeting}
 use Rattle.explanations.specs.declared.races.SharedPoint.{SharedPoint}
 use Rattle.tried_advice.specs.declared.form.Form.{Form}
@@ -110,10 +113,14 @@ abbrev pub release_text : GraphValue → TextLines → ReleaseReason → List �
 release_text g ls r =
     refused_one g (codes "release") r.release ++ (numbered g ls r.release ++ (on_text g ls r.on ++ write_text g r.release r.acquire (on_of g r.release)))
 
+-- the name of a column, by its number among those with cells and, behind them, those of data
+abbrev pub any_column_name : GraphValue → ℕ → List ℕ
+any_column_name g c = option_map_or (λ (x : ColumnInfo). x.inst ++ 46 ∷ x.field) (slice_get (all_columns g) c) []
+
 -- the column and the point that two lines share, and how they use it
 abbrev pub shared_text : GraphValue → TextLines → SharedPoint → ℕ → ℕ → List ℕ
 shared_text g ls s i j =
-    codes "both use column " ++ (column_name g s.one.column ++ (codes " at point " ++ (decimal s.point
+    codes "both use column " ++ (any_column_name g s.one.column ++ (codes " at point " ++ (decimal s.point
     ++ (codes ": " ++ (by_number g ls i ++ (codes " " ++ (mode_word s.one.mode ++ (codes " it, " ++ (by_number g ls j ++ (codes " " ++ (mode_word s.other.mode ++ codes " it\n")))))))))))
 
 abbrev pub meeting_text : GraphValue → TextLines → Option Meeting → List ℕ
@@ -208,8 +215,16 @@ abbrev pub named_text : GraphValue → TextLines → Option Form → Sections �
 named_text g ls None s i j = in_sections g ls i s.first.items ++ in_sections g ls j s.second.items
 named_text g ls (Some form) s i j = []
 
+-- how the sections of two lines stand to each other that need an order
+abbrev pub ordered_text : GraphValue → TextLines → ConflictReason → List ℕ
+ordered_text g ls r = named_text g ls r.advice r.sections r.first r.second ++ turns_text g ls r.sections
+
+-- the same of two lines that reduce in one way where they were seen to meet, and need an order besides
+abbrev pub besides_text : GraphValue → TextLines → ConflictReason → List ℕ
+besides_text g ls r = codes "sections would not set them apart: they also use a column in a way of which the order counts\n" ++ ordered_text g ls r
+
 abbrev pub sections_text : GraphValue → TextLines → ConflictReason → List ℕ
-sections_text g ls r = cond r.commutes (apart_text g ls r.sections r.first r.second) (named_text g ls r.advice r.sections r.first r.second ++ turns_text g ls r.sections)
+sections_text g ls r = cond r.commutes (cond (lines_need_order g r.first r.second) (besides_text g ls r) (apart_text g ls r.sections r.first r.second)) (ordered_text g ls r)
 
 abbrev pub race_text : GraphValue → TextLines → ConflictReason → List ℕ
 race_text g ls r =

@@ -1,16 +1,16 @@
 //! Why two lines race, as text.
 
-ghost use Rattle.std.specs.Prelude.{◌≡◌, ◌<◌, ◌++◌, ◌&&◌, length, take, codes, IfSome, OnOk};
+ghost use Rattle.std.specs.Prelude.{◌≡◌, ◌<◌, ◌+◌, ◌++◌, ◌&&◌, length, take, codes, IfSome, OnOk};
 ghost use Rattle.std.specs.List.{list_any};
-ghost use Rattle.graph_terms.specs.Graph.{columns, line_passes, is_shared};
+ghost use Rattle.graph_terms.specs.Graph.{columns, data_columns, line_passes, is_shared};
 ghost use Rattle.graph_terms.specs.Reservations.{both_shared};
-ghost use Rattle.graph_terms.specs.Spelling.{column_name};
 ghost use Rattle.explain_graph.specs.Explanation.{NamesMeeting};
-ghost use Rattle.refusal_text.specs.Refused.{mode_word, shared_text, meeting_text, on_line, on_merge, advice_by, wait_text, order_text, form_text, advice_text, on_of, most_told, told_few, few_lines_text, in_sections, are_equal, takes, of_one_lock, have_pair, none_text, turn_text, turns_text, pair_by, pair_text, pairs_with, pairs_text, apart_text, named_text, sections_text, race_text};
+ghost use Rattle.refusal_text.specs.Refused.{mode_word, any_column_name, shared_text, meeting_text, on_line, on_merge, advice_by, wait_text, order_text, form_text, advice_text, on_of, most_told, told_few, few_lines_text, in_sections, are_equal, takes, of_one_lock, have_pair, none_text, turn_text, turns_text, pair_by, pair_text, pairs_with, pairs_text, apart_text, named_text, ordered_text, besides_text, sections_text, race_text};
 ghost use Rattle.explain_text.specs.Lines.{by_number};
 
 use crate::bounds::MAX_SECTIONS;
 use crate::lines::{put_lines, put_name};
+use crate::orders::lines_need_order;
 use crate::refused::put_refused_two;
 use explain_graph::reasons::{ConflictReason, Sections};
 use explain_text::lines::{put_by_number, put_edges, put_numbered};
@@ -31,7 +31,9 @@ pub(crate) fn put_conflict(
     lines: &Lines,
     reason: &ConflictReason,
 ) -> Result<(), NoMemory>
-    requires column { reason.now.race.shared.one.column < length (columns graph.now) }
+    requires first { reason.now.first < length graph.now.lines }
+    requires second { reason.now.second < length graph.now.lines }
+    requires column { reason.now.race.shared.one.column < length (columns graph.now) + length (data_columns graph.now) }
     requires meeting { IfSome reason.now.race.meeting (NamesMeeting graph.now) }
     ensures { OnOk result (text.new ≡ text.old ++ race_text graph.now lines.now reason.now) }
 {
@@ -61,7 +63,7 @@ fn put_shared(
     first: u32,
     second: u32,
 ) -> Result<(), NoMemory>
-    requires { shared.now.one.column < length (columns graph.now) }
+    requires { shared.now.one.column < length (columns graph.now) + length (data_columns graph.now) }
     ensures { OnOk result (text.new ≡ text.old ++ shared_text graph.now lines.now shared.now first second) }
 {
     text.put(b"both use column ")?;
@@ -92,12 +94,12 @@ fn mode_word(mode: Mode) -> &'static [u8]
     }
 }
 
-/// Puts the name of a column.
+/// Puts the name of a column, which may be one of data.
 fn put_column(text: &mut Text, graph: &Graph, column: u32) -> Result<(), NoMemory>
-    requires { column < length (columns graph.now) }
-    ensures { OnOk result (text.new ≡ text.old ++ column_name graph.now column) }
+    requires { column < length (columns graph.now) + length (data_columns graph.now) }
+    ensures { OnOk result (text.new ≡ text.old ++ any_column_name graph.now column) }
 {
-    let (inst, field) = graph.column_name(column);
+    let (inst, field) = graph.any_column_name(column);
     text.put(inst.bytes())?;
     text.put(b".")?;
     text.put(field.bytes())
@@ -242,25 +244,57 @@ fn put_on_merge(text: &mut Text, graph: &Graph, one: u32, other: u32) -> Result<
 }
 
 /// Puts how the sections of two lines stand to each other; of lines that reduce in one way also what would
-/// set them apart.
+/// set them apart, unless they need an order besides.
 fn put_sections(
     text: &mut Text,
     graph: &Graph,
     lines: &Lines,
     reason: &ConflictReason,
 ) -> Result<(), NoMemory>
+    requires first { reason.now.first < length graph.now.lines }
+    requires second { reason.now.second < length graph.now.lines }
     ensures { OnOk result (text.new ≡ text.old ++ sections_text graph.now lines.now reason.now) }
 {
-    if reason.commutes {
-        return put_apart(
-            text,
-            graph,
-            lines,
-            &reason.sections,
-            reason.first,
-            reason.second,
-        );
+    if !reason.commutes {
+        return put_ordered(text, graph, lines, reason);
     }
+    if lines_need_order(graph, reason.first, reason.second) {
+        return put_besides(text, graph, lines, reason);
+    }
+    put_apart(
+        text,
+        graph,
+        lines,
+        &reason.sections,
+        reason.first,
+        reason.second,
+    )
+}
+
+/// Puts how the sections of two lines stand to each other that need an order, and that they need one.
+fn put_besides(
+    text: &mut Text,
+    graph: &Graph,
+    lines: &Lines,
+    reason: &ConflictReason,
+) -> Result<(), NoMemory>
+    ensures { OnOk result (text.new ≡ text.old ++ besides_text graph.now lines.now reason.now) }
+{
+    text.put(
+        b"sections would not set them apart: they also use a column in a way of which the order counts\n",
+    )?;
+    put_ordered(text, graph, lines, reason)
+}
+
+/// The same without that.
+fn put_ordered(
+    text: &mut Text,
+    graph: &Graph,
+    lines: &Lines,
+    reason: &ConflictReason,
+) -> Result<(), NoMemory>
+    ensures { OnOk result (text.new ≡ text.old ++ ordered_text graph.now lines.now reason.now) }
+{
     put_named(text, graph, lines, reason)?;
     put_turns(text, graph, lines, &reason.sections)
 }

@@ -4,6 +4,7 @@
 pub mod bounds;
 mod conflict;
 mod lines;
+mod orders;
 mod refused;
 
 pub use refused::put_explanation;

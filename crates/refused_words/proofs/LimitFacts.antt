@@ -1,8 +1,8 @@
 -- The quantities of a graph with one more item.
 use Rattle.std.proofs.Common.{◌≡◌, ℕ, zero, suc, ◌+◌, ◌-◌, ◌<◌, ◌≤◌, Bool, true, false, cond, List, [], ◌∷◌, ◌++◌, length, map, take, drop, get_or, refl, sym, ◌∙◌, ap, subst, append_assoc, arith, ⊎_elim}
-use Rattle.std.specs.Prelude.{Option, Some, None, option_map, bytes_eq, filter_map, unwrap_or, find, filter, sum_by, is_some, codes, slice_index_or, ◌==◌, Contains, nat_lt, Vec}
+use Rattle.std.specs.Prelude.{Option, Some, None, option_map, filter_map, unwrap_or, find, filter, sum_by, is_some, codes, slice_index_or, ◌==◌, Contains, nat_lt, Vec}
 use Rattle.std.specs.Option.{option_map_or}
-use Rattle.std.proofs.lemmas.Bool.{cases_lt, eq-eqb, ne_eqb, cond-true, cond-false, le-ltb, true≢false}
+use Rattle.std.proofs.lemmas.Bool.{cases_lt, eq-eqb, ne_eqb, le-ltb, true≢false}
 use Rattle.std.proofs.lemmas.List.{length-append, length-map, length-drop, append-nil, take_more}
 use Rattle.std.specs.Global.{Global}
 use Rattle.std.proofs.lemmas.Option.{slice_get-get_or, none-some, same_Some}
@@ -16,16 +16,19 @@ use Rattle.index_spaces.specs.Space.{space_size, points, interval_points}
 use Rattle.graph_terms.specs.Limits.{limits}
 use Rattle.graph_terms.specs.declared.decl.ColumnInfo.{ColumnInfo}
 use Rattle.graph_terms.specs.declared.decl.Decl.{Decl}
-use Rattle.graph_terms.specs.declared.decl.Decl.TheVariants.{Space, Inst, Lock, Barrier}
+use Rattle.graph_terms.specs.declared.decl.Decl.TheVariants.{Space, Inst, Data, Lock, Barrier}
 use Rattle.graph_terms.specs.declared.format.Format.{Format}
+use Rattle.graph_terms.specs.declared.format.Format.TheVariants.{Three}
+use Rattle.graph_terms.specs.Format.{has_since}
+use Rattle.graph_terms.specs.declared.limits.TheConstants.{MAX_CALL_ACCESSES}
 use Rattle.graph_terms.specs.declared.table.Kind.{Kind}
 use Rattle.graph_terms.specs.declared.table.Kind.TheVariants as kinds
 use Rattle.graph_terms.specs.declared.verb.Edge.{Edge}
 use Rattle.graph_terms.specs.declared.verb.EdgeKind.{EdgeKind}
 use Rattle.graph_terms.specs.declared.verb.EdgeKind.TheVariants as edge_kinds
 use Rattle.graph_terms.specs.declared.verb.Line.{Line}
-use Rattle.graph_terms.specs.declared.verb.Verb.TheVariants.{Phase, Merge, MergeIgnore}
-use Rattle.graph_terms.specs.Graph.{GraphValue, named_spaces, space_of, lock_of, barrier_of, columns, locks, barriers, space_at, column_space, is_phase_of}
+use Rattle.graph_terms.specs.declared.verb.Verb.TheVariants.{Phase, Call}
+use Rattle.graph_terms.specs.Graph.{GraphValue, named_spaces, space_of, lock_of, barrier_of, columns_of, data_columns_of, columns, locks, barriers, space_at, column_space, is_phase_of}
 use Rattle.graph_terms.specs.Edges.{edges, edges_into, last_place, edges_from_some, on_edges, line_edges, verb_edges}
 use Rattle.graph_terms.specs.Fits.{IsGraph, LinesFit, is_inst, cell_count, with_decl, with_line}
 use Rattle.graph_terms.specs.Table.{verb_of}
@@ -33,15 +36,18 @@ use Rattle.graph_indexes.specs.declared.counts.Counts.{Counts}
 use Rattle.graph_terms.proofs.Public.{edges_push}
 use Rattle.graph_model.proofs.CountLaws.{counts_with_decl, cells_of_fields}
 use Rattle.graph_model.proofs.TableLaws.{limits_line}
-use Rattle.graph_words.specs.Draft.{BarrierName, form_of, space_draft, space_with, on_events, line_draft, merge_draft, lock_draft, barrier_draft, barrier_with, inst_draft, inst_with, op_of, space_number}
-use Rattle.graph_reader.proofs.Public.{lock_shape, barrier_shape, inst_shape}
+use Rattle.graph_words.specs.Draft.{BarrierName, form_of, space_draft, space_with, on_events, merge_draft, call_draft, call_with, access_spelled, line_number, lock_draft, barrier_draft, barrier_with, inst_draft, data_draft, columns_with, op_of, space_number}
+use Rattle.graph_reader.proofs.Public.{lock_shape, barrier_shape, inst_shape, data_shape}
 use Rattle.basics.proofs.TestedLists.{find_mapped}
-use Rattle.graph_reader.specs.Kinds.{kind_draft, kind_verb, kind_on, kind_line, named_number}
+use Rattle.graph_reader.specs.Kinds.{kind_draft, kind_verb, kind_on, kind_line}
+use Rattle.word_meanings.specs.Telling.{named_number}
 use Rattle.graph_reader.specs.Merges.{merge_verb, merge_line}
+use Rattle.graph_words.specs.Calls.{CallWords, call_words}
 use Rattle.graph_words.specs.Cuts.{Gives}
 use Rattle.graph_words.specs.Words.{pieces, count_of, value_of, intervals_of}
 use Rattle.index_spaces.specs.declared.Op.{Op}
-use Rattle.refused_words.specs.Limits.{QuantityValue, quantity_value, quantity, is_above, spaces_quantity, spaces_of, verb_quantities, on_quantities, event_quantities, space_quantities, limit_in, intervals_limit, inst_limit}
+use Rattle.refused_words.specs.Limits.{QuantityValue, quantity_value, quantity, is_above, spaces_quantity, spaces_of, columns_quantity, column_count, verb_quantities, on_quantities, event_quantities, space_quantities, limit_in, intervals_limit, inst_limit, data_limit, size_limit}
+use Rattle.refused_words.specs.Places.{size_of_call, call_size}
 use Rattle.refused_words.specs.declared.limits.Quantity.{Quantity}
 
 lines_more : (g : GraphValue) (l : Line) → length (with_line g l).lines ≡ length g.lines + 1
@@ -98,16 +104,6 @@ merge_none g name ignores [] few = refl
 merge_none g name ignores (a ∷ []) few = refl
 merge_none g name ignores (a ∷ b ∷ bs) few = absurd (omega arith)
 
--- a line that begins so is a merge
-pub as_merge : (g : GraphValue) (name : List ℕ) (ws : List (List ℕ)) (v : List ℕ) → v ≡ slice_index_or ws 0 [] → bytes_eq v (codes "merge") ≡ true → line_draft g name ws ≡ merge_draft g name (merge_verb false) (drop 1 ws)
-as_merge g name [] v e b = absurd (true≢false (sym b ∙ ap (λ x. bytes_eq x (codes "merge")) e))
-as_merge g name (w ∷ ws) v e b = cond-true (bytes_eq w (codes "merge")) (merge_draft g name Merge ws) _ (ap (λ x. bytes_eq x (codes "merge")) (sym e) ∙ b)
-
-pub as_mergei : (g : GraphValue) (name : List ℕ) (ws : List (List ℕ)) (v : List ℕ) → v ≡ slice_index_or ws 0 [] → bytes_eq v (codes "merge") ≡ false → bytes_eq v (codes "mergei") ≡ true → line_draft g name ws ≡ merge_draft g name (merge_verb true) (drop 1 ws)
-as_mergei g name [] v e b c = absurd (true≢false (sym c ∙ ap (λ x. bytes_eq x (codes "mergei")) e))
-as_mergei g name (w ∷ ws) v e b c = cond-false (bytes_eq w (codes "merge")) (merge_draft g name Merge ws) _ (ap (λ x. bytes_eq x (codes "merge")) (sym e) ∙ b)
-    ∙ cond-true (bytes_eq w (codes "mergei")) (merge_draft g name MergeIgnore ws) _ (ap (λ x. bytes_eq x (codes "mergei")) (sym e) ∙ c)
-
 pub first_of : (qs : List Quantity) → option_map quantity_value (find (λ (q : Quantity). nat_lt q.bound q.value) qs) ≡ find is_above (map quantity_value qs)
 first_of qs = sym (find_mapped is_above quantity_value qs)
 
@@ -154,6 +150,38 @@ kind_limit g kind name ws given on a b c d is there first second third fourth =
     let count : on ≡ length (kind_on g kind ws) = there ∙ sym (length-map (on_events g.format (form_of kind) ws) _) in
     same_four _ _ _ _ _ _ _ _ first (second ∙ ap (λ n. quantity (codes "events behind on") n (limits g.format).events) count) third (no_more g d fourth)
     ∙ (none_behind g.format (kind_on g kind ws) _ _ _ ∙ sym (kind_some g kind name ws given on is there))
+
+-- a call
+abbrev call_line : GraphValue → List ℕ → CallWords → Line
+call_line g name c = record { name = name; verb = Call (record { word = c.word; values = map (λ w. unwrap_or (value_of w) 0) c.values; accesses = map (access_spelled g) c.accesses }); on = map (line_number g) c.events }
+
+same_call : (lines used edges n a k most_lines most_edges : ℕ) (qs more : List QuantityValue) → lines ≡ n → used ≡ a → edges ≡ k →
+    find is_above ((quantity (codes "operations") lines most_lines ∷ (quantity (codes "accesses of a call") used MAX_CALL_ACCESSES ∷ qs) ++ quantity (codes "edges") edges most_edges ∷ []) ++ more)
+    ≡ find is_above ((quantity (codes "operations") n most_lines ∷ (quantity (codes "accesses of a call") a MAX_CALL_ACCESSES ∷ qs) ++ quantity (codes "edges") k most_edges ∷ []) ++ more)
+same_call lines used edges n a k most_lines most_edges qs more p q r =
+    ap (λ x. find is_above ((quantity (codes "operations") x most_lines ∷ (quantity (codes "accesses of a call") used MAX_CALL_ACCESSES ∷ qs) ++ quantity (codes "edges") edges most_edges ∷ []) ++ more)) p
+    ∙ (ap (λ x. find is_above ((quantity (codes "operations") n most_lines ∷ (quantity (codes "accesses of a call") x MAX_CALL_ACCESSES ∷ qs) ++ quantity (codes "edges") edges most_edges ∷ []) ++ more)) q
+    ∙ ap (λ x. find is_above ((quantity (codes "operations") n most_lines ∷ (quantity (codes "accesses of a call") a MAX_CALL_ACCESSES ∷ qs) ++ quantity (codes "edges") x most_edges ∷ []) ++ more)) r)
+
+call_given : (g : GraphValue) (name : List ℕ) (c : CallWords) → limit_in g (Some (call_with g name c)) ≡ size_limit g (size_of_call c)
+call_given g name c =
+    let l : Line = call_line g name c in
+    let on : length l.on ≡ length c.events = length-map c.events (line_number g) in
+    let used : length (map (access_spelled g) c.accesses) ≡ length c.accesses = length-map c.accesses (access_spelled g) in
+    let given : length (line_edges g.lines l) ≡ length l.on + 0 = length-append (on_edges l.on (length g.lines)) [] ∙ ap (λ n. n + 0) (length-map l.on _) in
+    let all : length (edges (with_line g l)) ≡ length (edges g) + length (line_edges g.lines l) = edges_more g l in
+    let sum : length (edges (with_line g l)) ≡ length (edges g) + length c.events = omega arith in
+    same_call _ _ _ _ _ _ (limits g.format).lines (limits g.format).edges (on_quantities g.format l.on) (spaces_of g) (lines_more g l) used sum
+    ∙ sym (ap (λ n. find is_above (quantity (codes "operations") (length g.lines + 1) (limits g.format).lines ∷ quantity (codes "accesses of a call") (length c.accesses) MAX_CALL_ACCESSES ∷ quantity (codes "events behind on") n (limits g.format).events ∷ quantity (codes "edges") (length (edges g) + length c.events) (limits g.format).edges ∷ spaces_of g)) (sym on)
+    ∙ ap (cond (is_above (quantity (codes "operations") (length g.lines + 1) (limits g.format).lines)) (Some (quantity (codes "operations") (length g.lines + 1) (limits g.format).lines))) (none_behind g.format l.on _ _ (spaces_of g)))
+
+call_by : (g : GraphValue) (name : List ℕ) (b : Bool) (o : Option CallWords) → limit_in g (cond b (option_map (call_with g name) o) None) ≡ option_map_or (size_limit g) (cond b (option_map size_of_call o) None) None
+call_by g name false o = refl
+call_by g name true None = refl
+call_by g name true (Some c) = call_given g name c
+
+pub call_limit : (g : GraphValue) (name : List ℕ) (ws : List (List ℕ)) → limit_in g (call_draft g name (drop 1 ws)) ≡ option_map_or (size_limit g) (call_size g.format ws) None
+call_limit g name ws = call_by g name (has_since Three g.format) (call_words (drop 1 ws))
 
 pub phase_verb : (g : GraphValue) (ws : List (List ℕ)) → 0 < length ws → kind_verb g kinds.Phase ws ≡ Phase (named_number g BarrierName (slice_index_or ws 0 []))
 phase_verb g [] some = absurd (omega arith)
@@ -295,13 +323,20 @@ same_inst : (insts cols cells i c m most_insts most_columns most_cells n k : ℕ
     ≡ find is_above (quantity (codes "instances") i most_insts ∷ quantity (codes "columns") c most_columns ∷ quantity (codes "cells") m most_cells ∷ spaces_quantity f k ∷ [])
 same_inst insts cols cells i c m most_insts most_columns most_cells n k f a b d e = cc
 
-pub inst_with_limit : (g : GraphValue) → IsGraph g → (name space word : List ℕ) → limit_in g (Some (inst_with g name space word)) ≡ inst_limit g (space_number g space) (length (pieces 44 word))
+same_two : (a b x y : QuantityValue) → a ≡ x → b ≡ y → find is_above (a ∷ b ∷ []) ≡ find is_above (x ∷ y ∷ [])
+same_two a b x y p q = cc
+
+columns_with_decl : (g : GraphValue) (d : Decl) (n : ℕ) → IsGraph g → length (columns_of d) + length (data_columns_of d) ≡ n → column_count (with_decl g d) ≡ column_count g + n
+columns_with_decl g d n fits is = ap (λ (x : Counts). x.columns) (counts_with_decl g d fits) ∙ ap (λ m. column_count g + m) is
+
+pub inst_with_limit : (g : GraphValue) → IsGraph g → (name space word : List ℕ) → limit_in g (Some (columns_with g false name space word)) ≡ inst_limit g (space_number g space) (length (pieces 44 word))
 inst_with_limit g fits name space word =
     let d : Decl = Inst name (space_number g space) (pieces 44 word) in
     let counts = counts_with_decl g d fits in
+    let fields : length (columns_of d) ≡ length (pieces 44 word) = length-map (pieces 44 word) _ in
     let spaces : length (named_spaces (with_decl g d)) ≡ length (named_spaces g) + 0 = spaces_with g d in
     same_inst _ _ _ _ _ _ _ _ _ _ _ _ (ap (λ (x : Counts). x.insts) counts)
-    (ap (λ (x : Counts). x.columns) counts ∙ ap (λ n. length (columns g) + n) (length-map (pieces 44 word) _))
+    (columns_with_decl g d (length (pieces 44 word)) fits (let e : length (columns_of d) + 0 ≡ length (pieces 44 word) = omega arith in e))
     (ap (λ (x : Counts). x.cells) counts ∙ ap (λ n. cell_count g + n) (cells_of_fields g name (space_number g space) (pieces 44 word)))
     (let same : length (named_spaces (with_decl g d)) ≡ length (named_spaces g) = omega arith in same)
 
@@ -310,6 +345,19 @@ pub inst_is_limit : (g : GraphValue) → IsGraph g → (ws : List (List ℕ)) (s
 inst_is_limit g fits ws space fields four named spelled =
     ap (λ n. inst_limit g n fields) named ∙ (ap (inst_limit g (space_number g (slice_index_or ws 2 []))) spelled
     ∙ (sym (inst_with_limit g fits (slice_index_or ws 1 []) (slice_index_or ws 2 []) (slice_index_or ws 3 [])) ∙ ap (limit_in g) (sym (inst_shape g ws four))))
+
+-- data
+data_with_limit : (g : GraphValue) → IsGraph g → (name space word : List ℕ) → limit_in g (Some (columns_with g true name space word)) ≡ data_limit g (length (pieces 44 word))
+data_with_limit g fits name space word =
+    let d : Decl = Data name (space_number g space) (pieces 44 word) in
+    let fields : length (data_columns_of d) ≡ length (pieces 44 word) = length-map (pieces 44 word) _ in
+    let spaces : length (named_spaces (with_decl g d)) ≡ length (named_spaces g) + 0 = spaces_with g d in
+    same_two _ _ _ _ (ap (columns_quantity g.format) (columns_with_decl g d (length (pieces 44 word)) fits (let e : 0 + length (data_columns_of d) ≡ length (pieces 44 word) = omega arith in e)))
+    (ap (spaces_quantity g.format) (let same : length (named_spaces (with_decl g d)) ≡ length (named_spaces g) = omega arith in same))
+
+pub data_is_limit : (g : GraphValue) → IsGraph g → (ws : List (List ℕ)) (fields : ℕ) → length ws ≡ 4 → has_since Three g.format ≡ true → fields ≡ length (pieces 44 (slice_index_or ws 3 [])) → data_limit g fields ≡ limit_in g (data_draft g (drop 1 ws))
+data_is_limit g fits ws fields four three spelled =
+    ap (data_limit g) spelled ∙ (sym (data_with_limit g fits (slice_index_or ws 1 []) (slice_index_or ws 2 []) (slice_index_or ws 3 [])) ∙ ap (limit_in g) (sym (data_shape g ws four three)))
 
 -- a reservation, and a barrier
 same_one : (name : List ℕ) (n m bound i k : ℕ) (f : Format) (a d : QuantityValue) → a ≡ quantity name n bound → n ≡ m → d ≡ spaces_quantity f i → i ≡ k → find is_above (a ∷ d ∷ []) ≡ find is_above (quantity name m bound ∷ spaces_quantity f k ∷ [])
@@ -359,19 +407,3 @@ space_limit g (a ∷ b ∷ c ∷ d ∷ ds) is three spelled = absurd (omega (ari
 
 pub below_next : (f : ℕ → ℕ) (n : ℕ) → below f (n + 1) ≡ below f n + f n
 below_next f n = let one : n + 1 ≡ suc n = omega arith in ap (below f) one
-
--- one that is above, and one that is not
-pub above_first : (a x y : QuantityValue) → a ≡ x → is_above x ≡ true → Some a ≡ find is_above (x ∷ y ∷ [])
-above_first a x y p h = ap Some p ∙ sym (cond-true (is_above x) (Some x) (cond (is_above y) (Some y) None) h)
-
-pub above_later : (b x y : QuantityValue) → b ≡ y → is_above x ≡ false → find is_above (b ∷ []) ≡ find is_above (x ∷ y ∷ [])
-above_later b x y p h = ap (λ q. find is_above (q ∷ [])) p ∙ sym (cond-false (is_above x) (Some x) (cond (is_above y) (Some y) None) h)
-
-same_two : (a b x y : QuantityValue) → a ≡ x → b ≡ y → find is_above (a ∷ b ∷ []) ≡ find is_above (x ∷ y ∷ [])
-same_two a b x y p q = cc
-
-pub above_second : (a b x y z : QuantityValue) → a ≡ x → b ≡ y → is_above y ≡ true → find is_above (a ∷ b ∷ []) ≡ find is_above (x ∷ y ∷ z ∷ [])
-above_second a b x y z p q h = same_two a b x y p q ∙ ap (cond (is_above x) (Some x)) (cond-true (is_above y) (Some y) None h ∙ sym (cond-true (is_above y) (Some y) (cond (is_above z) (Some z) None) h))
-
-pub above_third : (a c x y z : QuantityValue) → a ≡ x → c ≡ z → is_above y ≡ false → find is_above (a ∷ c ∷ []) ≡ find is_above (x ∷ y ∷ z ∷ [])
-above_third a c x y z p r h = same_two a c x z p r ∙ ap (cond (is_above x) (Some x)) (sym (cond-false (is_above y) (Some y) (cond (is_above z) (Some z) None) h))

@@ -1,35 +1,31 @@
 -- A line that Limit refuses brings a quantity above its bound.
 use Rattle.std.proofs.Common.{◌≡◌, ℕ, ◌+◌, ◌<◌, Bool, true, false, cond, ◌&&◌, ◌||◌, ◌⊎◌, inl, inr, List, [], ◌∷◌, ◌++◌, length, refl, sym, ◌∙◌, ap, append-nil, append_assoc, arith}
-use Rattle.std.specs.Prelude.{Option, Some, None, is_some, find, filter, filter_map, nat_lt, codes}
-use Rattle.std.specs.Option.{option_map_or}
+use Rattle.std.specs.Prelude.{Some, is_some, find, filter, filter_map, nat_lt, codes}
 use Rattle.std.specs.List.{list_any}
 use Rattle.std.proofs.lemmas.Bool.{true≢false, and_parts, or_parts, or_cases, or_right, ltb-true}
-use Rattle.std.proofs.lemmas.Option.{none-some}
-use Rattle.graph_terms.specs.declared.limits.TheConstants.{MAX_TEXT, MAX_SPACES}
+use Rattle.graph_terms.specs.declared.limits.TheConstants.{MAX_TEXT, MAX_SPACES, MAX_CALL_ACCESSES}
 use Rattle.graph_terms.specs.Limits.{limits}
 use Rattle.graph_terms.specs.declared.decl.Decl.{Decl}
-use Rattle.graph_terms.specs.declared.decl.Decl.TheVariants.{Space, Inst, Lock, Barrier}
+use Rattle.graph_terms.specs.declared.decl.Decl.TheVariants.{Space, Inst, Data, Lock, Barrier}
 use Rattle.graph_terms.specs.declared.format.Format.{Format}
 use Rattle.graph_terms.specs.declared.format.Format.TheVariants.{One, Two, Three}
 use Rattle.graph_terms.specs.declared.verb.Line.{Line}
 use Rattle.graph_terms.specs.declared.verb.Verb.{Verb}
-use Rattle.graph_terms.specs.declared.verb.Verb.TheVariants.{Merge, MergeIgnore}
-use Rattle.graph_terms.specs.declared.why.Why.{Why}
+use Rattle.graph_terms.specs.declared.verb.Verb.TheVariants.{Merge, MergeIgnore, Call}
 use Rattle.graph_terms.specs.declared.why.Why.TheVariants as reasons
 use Rattle.graph_terms.specs.Edges.{edges}
-use Rattle.graph_terms.specs.Fits.{IsGraph, DeclsFit, LinesFit, decl_tests, line_tests, decl_fault, line_fault, is_large, has_many_spaces, is_beyond, merged_events, names_many, is_inst, cell_count, with_decl, with_line}
-use Rattle.graph_terms.specs.Graph.{GraphValue, named_spaces, columns_of, lock_of, barrier_of, columns, locks, barriers}
+use Rattle.graph_terms.specs.Fits.{IsGraph, DeclsFit, LinesFit, decl_tests, line_tests, decl_fault, line_fault, is_large, has_many_spaces, is_beyond, merged_events, names_many, accesses_many, is_inst, cell_count, with_decl, with_line}
+use Rattle.graph_terms.specs.Graph.{GraphValue, named_spaces, columns_of, data_columns_of, lock_of, barrier_of, locks, barriers}
 use Rattle.graph_terms.specs.Spelling.{head}
 use Rattle.graph_indexes.specs.declared.counts.Counts.{Counts}
 use Rattle.graph_indexes.specs.Counts.{cells_of_decl}
 use Rattle.graph_model.proofs.CountLaws.{counts_with_decl}
 use Rattle.index_spaces.specs.Space.{space_size}
-use Rattle.graph_words.specs.Draft.{Draft, draft}
-use Rattle.graph_reader.specs.FirstFault.{words_fault, draft_fault, item_fault, or_else, is_empty}
+use Rattle.graph_reader.specs.FirstFault.{words_fault, item_fault}
 use Rattle.graph_words.proofs.Public.{each_fails}
-use Rattle.basics.proofs.Choices.{chosen}
-use Rattle.refused_words.specs.Limits.{QuantityValue, quantity, is_above, spaces_quantity, spaces_of, decl_quantities, verb_quantities, on_quantities, event_quantities, line_quantities, item_quantities, limit_in, limit_of}
+use Rattle.refused_words.specs.Limits.{QuantityValue, quantity, is_above, spaces_quantity, spaces_of, column_count, decl_quantities, verb_quantities, on_quantities, event_quantities, line_quantities, item_quantities, limit_in, limit_of}
 use Rattle.refused_words.specs.Laws.{is_long_with, is_long_in, is_long_by}
+use Rattle.refused_words.proofs.ReasonFacts.{item_told, item_refused}
 
 abbrev of_items : Format → List Decl → List Line → GraphValue
 of_items fm ds ls = record { format = fm; decls = ds; lines = ls }
@@ -39,14 +35,14 @@ lines_within : (fm : Format) (ds : List Decl) (before ls : List Line) → LinesF
 lines_within fm ds before [] f h = ap (λ xs. is_beyond (of_items fm ds xs)) (append-nil before) ∙ h
 lines_within fm ds before (l ∷ ls) f h =
     let t = each_fails (line_tests (of_items fm ds before) l) f.1 in
-    let now : is_beyond (of_items fm ds (before ++ l ∷ [])) ≡ false = (or_parts (names_many fm l.verb l.on) _ t.1.1.1.1.1.1.0).1 in
+    let now : is_beyond (of_items fm ds (before ++ l ∷ [])) ≡ false = (or_parts (accesses_many l.verb) _ (or_parts (names_many fm l.verb l.on) _ t.1.1.1.1.1.1.1.0).1).1 in
     ap (λ xs. is_beyond (of_items fm ds xs)) (sym (append_assoc before (l ∷ []) ls)) ∙ lines_within fm ds (before ++ l ∷ []) ls f.2 now
 
 decls_within : (fm : Format) (before ds : List Decl) → DeclsFit fm before ds → is_beyond (of_items fm before []) ≡ false → is_beyond (of_items fm (before ++ ds) []) ≡ false
 decls_within fm before [] f h = ap (λ xs. is_beyond (of_items fm xs [])) (append-nil before) ∙ h
 decls_within fm before (d ∷ ds) f h =
     let t = each_fails (decl_tests (of_items fm before []) d) f.1 in
-    let now : is_beyond (of_items fm (before ++ d ∷ []) []) ≡ false = (or_parts (is_large fm d) _ t.1.1.1.0).1 in
+    let now : is_beyond (of_items fm (before ++ d ∷ []) []) ≡ false = (or_parts (is_large fm d) _ t.1.1.1.1.0).1 in
     ap (λ xs. is_beyond (of_items fm xs [])) (sym (append_assoc before (d ∷ []) ds)) ∙ decls_within fm (before ++ d ∷ []) ds f.2 now
 
 empty_within : (fm : Format) → is_beyond (of_items fm [] []) ≡ false
@@ -93,6 +89,10 @@ many_merged format (Merge events) h = ap (λ b. b || false) h
 many_merged format (MergeIgnore events) h = ap (λ b. b || false) h
 many_merged format v h = absurd (none_many (limits format).events h)
 
+many_accesses : (format : Format) (v : Verb) → accesses_many v ≡ true → list_any is_above (verb_quantities format v) ≡ true
+many_accesses format (Call call) h = ap (λ b. b || false) h
+many_accesses format v h = absurd (none_many MAX_CALL_ACCESSES h)
+
 many_behind : (format : Format) (on : List ℕ) → nat_lt (limits format).events (length on) ≡ true → list_any is_above (on_quantities format on) ≡ true
 many_behind format [] h = absurd (none_many (limits format).events h)
 many_behind format (e ∷ es) h = ap (λ b. b || false) h
@@ -130,17 +130,6 @@ over false false i c m k b n e x w y z f h =
     left true d a h = absurd (true≢false a)
     left false d a h = h
 
-line_limit : (a b c d e f i : Bool) →
-    cond a (Some reasons.Twice) (cond b (Some reasons.Unknown) (cond c (Some reasons.Kind) (cond d (Some reasons.Number) (cond e (Some reasons.Outside) (cond f (Some reasons.Arrivals) (cond i (Some reasons.Limit) None)))))) ≡ Some reasons.Limit → i ≡ true
-line_limit true b c d e f i h = absurd (cc)
-line_limit false true c d e f i h = absurd (cc)
-line_limit false false true d e f i h = absurd (cc)
-line_limit false false false true e f i h = absurd (cc)
-line_limit false false false false true f i h = absurd (cc)
-line_limit false false false false false true i h = absurd (cc)
-line_limit false false false false false false true h = refl
-line_limit false false false false false false false h = absurd (none-some reasons.Limit h)
-
 module _ (g : GraphValue) (l : Line) where
   abbrev operations : QuantityValue
   operations = quantity (codes "operations") (length (with_line g l).lines) (limits g.format).lines
@@ -155,6 +144,9 @@ module _ (g : GraphValue) (l : Line) where
   by_events : names_many g.format l.verb l.on ≡ true → is_some (find is_above (item_quantities g (inr l))) ≡ true
   by_events h = among_all (or_right (is_above operations) _ (any_before (event_quantities g.format l) (last ∷ []) (many_events g.format l h)))
 
+  by_accesses : accesses_many l.verb ≡ true → is_some (find is_above (item_quantities g (inr l))) ≡ true
+  by_accesses h = among_all (or_right (is_above operations) _ (any_before (event_quantities g.format l) (last ∷ []) (any_before (verb_quantities g.format l.verb) (on_quantities g.format l.on) (many_accesses g.format l.verb h))))
+
   by_lines : nat_lt (limits g.format).lines (length (with_line g l).lines) ≡ true → is_some (find is_above (item_quantities g (inr l))) ≡ true
   by_lines h = among_all (ap (λ b. b || list_any is_above (event_quantities g.format l ++ last ∷ [])) h)
 
@@ -168,7 +160,7 @@ module _ (g : GraphValue) (l : Line) where
   ]
 
   beyond_line : IsGraph g → is_beyond (with_line g l) ≡ true → (is_some (find is_above (item_quantities g (inr l))) ≡ true) ⊎ (nat_lt (limits g.format).text (length (head (with_line g l))) ≡ true)
-  beyond_line f o = elim (over (nat_lt (limits g.format).text (length (head (with_line g l)))) (has_many_spaces (with_line g l)) (nat_lt (limits g.format).insts (length (filter is_inst g.decls))) (nat_lt (limits g.format).columns (length (columns g)))
+  beyond_line f o = elim (over (nat_lt (limits g.format).text (length (head (with_line g l)))) (has_many_spaces (with_line g l)) (nat_lt (limits g.format).insts (length (filter is_inst g.decls))) (nat_lt (limits g.format).columns (column_count g))
       (nat_lt (limits g.format).cells (cell_count g)) (nat_lt (limits g.format).locks (length (locks g))) (nat_lt (limits g.format).barriers (length (barriers g)))
       (nat_lt (limits g.format).lines (length (with_line g l).lines)) (nat_lt (limits g.format).edges (length (edges (with_line g l))))
       (nat_lt (limits g.format).text (length (head g))) (has_many_spaces g) (nat_lt (limits g.format).lines (length g.lines)) (nat_lt (limits g.format).edges (length (edges g))) (graph_within g f) o) [
@@ -183,29 +175,15 @@ module _ (g : GraphValue) (l : Line) where
       ]
 
   pub line_quantity : IsGraph g → line_fault g l ≡ Some reasons.Limit → (is_some (find is_above (item_quantities g (inr l))) ≡ true) ⊎ (nat_lt (limits g.format).text (length (head (with_line g l))) ≡ true)
-  line_quantity f h = elim (or_cases (names_many g.format l.verb l.on) (is_beyond (with_line g l)) (line_limit _ _ _ _ _ _ (names_many g.format l.verb l.on || is_beyond (with_line g l)) h)) [
+  line_quantity f h = elim (or_cases (names_many g.format l.verb l.on) _ (item_told g reasons.Limit (inr l) h)) [
     | inl m ↦ inl (by_events m)
-    | inr o ↦ beyond_line f o
+    | inr later ↦ elim (or_cases (accesses_many l.verb) (is_beyond (with_line g l)) later) [
+      | inl a ↦ inl (by_accesses a)
+      | inr o ↦ beyond_line f o
+    ]
   ]
 
-words_limit : (a b c d e f : Bool) (item : Option Why) →
-    or_else (cond a (Some reasons.Name) (cond b (Some reasons.Twice) (cond c (Some reasons.Unknown) (cond d (Some reasons.Kind) (cond e (Some reasons.Number) (cond f (Some reasons.Space) None)))))) item ≡ Some reasons.Limit → item ≡ Some reasons.Limit
-words_limit true b c d e f item h = absurd (cc)
-words_limit false true c d e f item h = absurd (cc)
-words_limit false false true d e f item h = absurd (cc)
-words_limit false false false true e f item h = absurd (cc)
-words_limit false false false false true f item h = absurd (cc)
-words_limit false false false false false true item h = absurd (cc)
-words_limit false false false false false false item h = h
-
 -- a declaration
-decl_limit : (a b c d : Bool) → cond a (Some reasons.Twice) (cond b (Some reasons.Unknown) (cond c (Some reasons.Number) (cond d (Some reasons.Limit) None))) ≡ Some reasons.Limit → d ≡ true
-decl_limit true b c d h = absurd (cc)
-decl_limit false true c d h = absurd (cc)
-decl_limit false false true d h = absurd (cc)
-decl_limit false false false true h = refl
-decl_limit false false false false h = absurd (none-some reasons.Limit h)
-
 -- which of the quantities is above, where those of the lines are as before
 over_decl : (t p i c m k b n e : Bool) → n ≡ false → e ≡ false → (t || (p || (i || (c || (m || (k || (b || (n || e)))))))) ≡ true → (t ≡ true) ⊎ ((p ≡ true) ⊎ ((i || (c || (m || (k || b)))) ≡ true))
 over_decl true p i c m k b n e x y h = inl refl
@@ -232,6 +210,13 @@ over_inst false false true k b s t h = refl
 over_inst false false false true b s t h = absurd (true≢false s)
 over_inst false false false false b s t h = absurd (true≢false (sym h ∙ t))
 
+over_data : (i c m k b : Bool) → i ≡ false → m ≡ false → k ≡ false → b ≡ false → (i || (c || (m || (k || b)))) ≡ true → (c || false) ≡ true
+over_data true c m k b p r s t h = absurd (true≢false p)
+over_data false true m k b p r s t h = refl
+over_data false false true k b p r s t h = absurd (true≢false r)
+over_data false false false true b p r s t h = absurd (true≢false s)
+over_data false false false false b p r s t h = absurd (true≢false (sym h ∙ t))
+
 over_lock : (i c m k b : Bool) → i ≡ false → c ≡ false → m ≡ false → b ≡ false → (i || (c || (m || (k || b)))) ≡ true → (k || false) ≡ true
 over_lock true c m k b p q r t h = absurd (true≢false p)
 over_lock false true m k b p q r t h = absurd (true≢false q)
@@ -255,13 +240,13 @@ still : (bound a b more : ℕ) → a ≡ b + more → more ≡ 0 → nat_lt boun
 still bound a b more e none h = ap (nat_lt bound) (let same : a ≡ b = omega arith in same) ∙ h
 
 module _ (g : GraphValue) (f : IsGraph g) where
-  within : (nat_lt (limits g.format).insts (length (filter is_inst g.decls)) ≡ false) × ((nat_lt (limits g.format).columns (length (columns g)) ≡ false) × ((nat_lt (limits g.format).cells (cell_count g) ≡ false)
+  within : (nat_lt (limits g.format).insts (length (filter is_inst g.decls)) ≡ false) × ((nat_lt (limits g.format).columns (column_count g) ≡ false) × ((nat_lt (limits g.format).cells (cell_count g) ≡ false)
       × ((nat_lt (limits g.format).locks (length (locks g)) ≡ false) × ((nat_lt (limits g.format).barriers (length (barriers g)) ≡ false) × ((nat_lt (limits g.format).lines (length g.lines) ≡ false) × (nat_lt (limits g.format).edges (length (edges g)) ≡ false))))))
   within =
       let p = or_parts (nat_lt (limits g.format).text (length (head g))) _ (graph_within g f) in
       let o = or_parts (has_many_spaces g) _ p.1 in
       let q = or_parts (nat_lt (limits g.format).insts (length (filter is_inst g.decls))) _ o.1 in
-      let r = or_parts (nat_lt (limits g.format).columns (length (columns g))) _ q.1 in
+      let r = or_parts (nat_lt (limits g.format).columns (column_count g)) _ q.1 in
       let s = or_parts (nat_lt (limits g.format).cells (cell_count g)) _ r.1 in
       let u = or_parts (nat_lt (limits g.format).locks (length (locks g))) _ s.1 in
       let v = or_parts (nat_lt (limits g.format).barriers (length (barriers g))) _ u.1 in
@@ -277,7 +262,7 @@ module _ (g : GraphValue) (f : IsGraph g) where
     above_insts = nat_lt (limits g.format).insts (length (filter is_inst more.decls))
 
     abbrev above_columns : Bool
-    above_columns = nat_lt (limits g.format).columns (length (columns more))
+    above_columns = nat_lt (limits g.format).columns (column_count more)
 
     abbrev above_cells : Bool
     above_cells = nat_lt (limits g.format).cells (cell_count more)
@@ -291,7 +276,7 @@ module _ (g : GraphValue) (f : IsGraph g) where
     insts_still : length (filter is_inst (d ∷ [])) ≡ 0 → nat_lt (limits g.format).insts (length (filter is_inst more.decls)) ≡ false
     insts_still none = still (limits g.format).insts _ _ _ (ap (λ (x : Counts). x.insts) (counts_with_decl g d f)) none within.0
 
-    columns_still : length (columns_of d) ≡ 0 → nat_lt (limits g.format).columns (length (columns more)) ≡ false
+    columns_still : length (columns_of d) + length (data_columns_of d) ≡ 0 → nat_lt (limits g.format).columns (column_count more) ≡ false
     columns_still none = still (limits g.format).columns _ _ _ (ap (λ (x : Counts). x.columns) (counts_with_decl g d f)) none within.1.0
 
     cells_still : cells_of_decl g d ≡ 0 → nat_lt (limits g.format).cells (cell_count more) ≡ false
@@ -335,6 +320,8 @@ module _ (g : GraphValue) (f : IsGraph g) where
       absurd (over_space (above_insts (Space name space)) (above_columns (Space name space)) (above_cells (Space name space)) (above_locks (Space name space)) (above_barriers (Space name space)) (insts_still (Space name space) refl) (columns_still (Space name space) refl) (cells_still (Space name space) refl) (locks_still (Space name space) refl) (barriers_still (Space name space) refl) o)) h
   beyond_above (Inst name space fields) h = beyond_with (Inst name space fields) (λ o.
       over_inst (above_insts (Inst name space fields)) (above_columns (Inst name space fields)) (above_cells (Inst name space fields)) (above_locks (Inst name space fields)) (above_barriers (Inst name space fields)) (locks_still (Inst name space fields) refl) (barriers_still (Inst name space fields) refl) o) h
+  beyond_above (Data name space fields) h = beyond_with (Data name space fields) (λ o.
+      over_data (above_insts (Data name space fields)) (above_columns (Data name space fields)) (above_cells (Data name space fields)) (above_locks (Data name space fields)) (above_barriers (Data name space fields)) (insts_still (Data name space fields) refl) (cells_still (Data name space fields) refl) (locks_still (Data name space fields) refl) (barriers_still (Data name space fields) refl) o) h
   beyond_above (Lock name) h = beyond_with (Lock name) (λ o.
       over_lock (above_insts (Lock name)) (above_columns (Lock name)) (above_cells (Lock name)) (above_locks (Lock name)) (above_barriers (Lock name)) (insts_still (Lock name) refl) (columns_still (Lock name) refl) (cells_still (Lock name) refl) (barriers_still (Lock name) refl) o) h
   beyond_above (Barrier name count op first) h = beyond_with (Barrier name count op first) (λ o.
@@ -345,7 +332,7 @@ module _ (g : GraphValue) (f : IsGraph g) where
   large_above d h = absurd (true≢false (sym h))
 
   decl_quantity : (d : Decl) → decl_fault g d ≡ Some reasons.Limit → (is_some (find is_above (item_quantities g (inl d))) ≡ true) ⊎ (is_long_with g (inl d) ≡ true)
-  decl_quantity d h = elim (or_cases (is_large g.format d) (is_beyond (with_decl g d)) (decl_limit _ _ _ (is_large g.format d || is_beyond (with_decl g d)) h)) [
+  decl_quantity d h = elim (or_cases (is_large g.format d) (is_beyond (with_decl g d)) (item_told g reasons.Limit (inl d) h)) [
     | inl a ↦ inl (some_above (item_quantities g (inl d)) (declared d (large_above d a)))
     | inr b ↦ elim (beyond_above d b) [
       | inl a ↦ inl (some_above (item_quantities g (inl d)) a)
@@ -357,12 +344,10 @@ module _ (g : GraphValue) (f : IsGraph g) where
   item_quantity (inl d) h = decl_quantity d h
   item_quantity (inr l) h = line_quantity g l f h
 
-  draft_quantity : (o : Option Draft) → option_map_or (draft_fault g) o (Some reasons.Syntax) ≡ Some reasons.Limit → (is_some (limit_in g o) ≡ true) ⊎ (is_long_in g o ≡ true)
-  draft_quantity None h = absurd (cc)
-  draft_quantity (Some d) h = item_quantity d.item (words_limit _ _ _ _ _ _ (item_fault g d.item) h)
-
 pub limit_quantity : (g : GraphValue) (ws : List (List ℕ)) → IsGraph g → words_fault g ws ≡ Some reasons.Limit → (is_some (limit_of g ws) ≡ true) ⊎ (is_long_by g ws ≡ true)
-limit_quantity g ws f h = elim (chosen (list_any is_empty ws) (Some reasons.Syntax) _ (Some reasons.Limit) h) [
-  | inl e ↦ (let same = e.1 in absurd (cc))
-  | inr e ↦ draft_quantity g f (draft g ws) e.1
-]
+limit_quantity g ws f h =
+    let t = item_refused g reasons.Limit ws (λ e. cc) (λ ps. refl) h in
+    elim (item_quantity g f t.spelled.item t.refused) [
+      | inl a ↦ inl (ap (λ o. is_some (limit_in g o)) t.is ∙ a)
+      | inr b ↦ inr (ap (is_long_in g) t.is ∙ b)
+    ]

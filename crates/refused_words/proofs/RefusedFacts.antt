@@ -8,9 +8,9 @@ use Rattle.graph_terms.specs.declared.format.Format.{Format}
 use Rattle.graph_terms.specs.declared.verb.Verb.{Verb}
 use Rattle.graph_terms.specs.declared.why.Why.{Why}
 use Rattle.graph_terms.specs.Graph.{GraphValue, verb_at, line_passes}
-use Rattle.graph_words.specs.Draft.{Place, NewName, SpaceName, LockName, BarrierName, UserName, PhaseName, AcquireName, EventName, Column, Fields, Value, Times, Weight, Shared, Count, Intervals, line_number}
-use Rattle.graph_reader.specs.FirstFault.{twice}
-use Rattle.graph_reader.specs.Kinds.{named_number}
+use Rattle.graph_words.specs.Draft.{Place, NewName, SpaceName, LockName, BarrierName, UserName, PhaseName, AcquireName, EventName, CallName, Column, DataColumn, Fields, Value, Times, Weight, Shared, Count, Intervals, line_number}
+use Rattle.word_meanings.specs.WordFaults.{twice}
+use Rattle.word_meanings.specs.Telling.{named_number}
 use Rattle.refused_words.specs.Places.{place_at}
 use Rattle.refused_words.specs.Refused.{refuses_at, IsRepeat, IsFirstRepeat, IsRefusedAt}
 use Rattle.refused_words.specs.Ends.{ends, ends_at, ends_named, IsFirstEnding, IsEndedBy}
@@ -25,7 +25,9 @@ same_ends g UserName w v = refl
 same_ends g PhaseName w v = refl
 same_ends g AcquireName w v = refl
 same_ends g EventName w v = refl
+same_ends g CallName w v = refl
 same_ends g Column w v = refl
+same_ends g DataColumn w v = refl
 same_ends g Fields w v = refl
 same_ends g Value w v = refl
 same_ends g Times w v = refl

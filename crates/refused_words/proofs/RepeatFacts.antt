@@ -104,12 +104,6 @@ with_column q p k h = elim (or_cases (is_event p && is_event q) (is_column p && 
   | inr b ↦ (and_parts (is_column p) (is_column q) b).0
 ]
 
-pub with_neither : (fm : Format) (ws : List (List ℕ)) (n : ℕ) → is_event (place_at fm ws n) ≡ false → is_column (place_at fm ws n) ≡ false → StandsBefore fm ws n → ⊥
-with_neither fm ws n k l s = elim (or_cases (is_event (place_at fm ws s.0) && is_event (place_at fm ws n)) (is_column (place_at fm ws s.0) && is_column (place_at fm ws n)) s.2) [
-  | inl a ↦ true≢false (sym (and_parts (is_event (place_at fm ws s.0)) (is_event (place_at fm ws n)) a).1 ∙ k)
-  | inr b ↦ true≢false (sym (and_parts (is_column (place_at fm ws s.0)) (is_column (place_at fm ws n)) b).1 ∙ l)
-]
-
 pub if_ok : {X E : Type 0} (r : Result X E) (P Q : X → Type 0) → ((x : X) → P x → Q x) → IfOk r P → IfOk r Q
 if_ok (Ok x) P Q f h = f x h
 if_ok (Err e) P Q f h = tt

@@ -4,7 +4,6 @@ use Rattle.std.specs.Prelude.{Option, Some, None, option_map, slice_get, find, c
 use Rattle.std.specs.Option.{option_map_or}
 use Rattle.std.specs.List.{list_any}
 use Rattle.std.proofs.lemmas.Bool.{true≢false, or_cases, cond-true, cond-false}
-use Rattle.std.proofs.lemmas.Option.{none-some, same_Some}
 use Rattle.std.proofs.lemmas.List.{length-map, length-drop}
 use Rattle.index_spaces.specs.declared.Op.{Op}
 use Rattle.graph_terms.specs.declared.decl.Decl.{Decl}
@@ -15,24 +14,28 @@ use Rattle.graph_terms.specs.declared.table.Kind.{Kind}
 use Rattle.graph_terms.specs.declared.table.Kind.TheVariants as kinds
 use Rattle.graph_terms.specs.declared.table.Place as table
 use Rattle.graph_terms.specs.declared.table.TheConstants.{KINDS}
-use Rattle.graph_terms.specs.Fits.{arrives_late}
+use Rattle.graph_terms.specs.declared.format.Format.TheVariants.{Three}
+use Rattle.graph_terms.specs.Format.{has_since}
 use Rattle.graph_terms.specs.Graph.{GraphValue}
 use Rattle.graph_terms.specs.Table.{kind_places, kind_words}
-use Rattle.graph_words.specs.Draft.{Place, NewName, SpaceName, EventName, Fields, Value, Count, Intervals, Placed, Draft, draft, as_place, form_of, has_on, events_placed, on_placed, is_of_form, same_word, merge_draft, line_draft, decl_draft_after, decl_draft, space_draft, inst_draft, lock_draft, barrier_draft, barrier_with, op_of}
-use Rattle.graph_reader.specs.FirstFault.{misnamed, misordered, draft_fault, item_fault, words_fault, or_else, is_empty}
+use Rattle.graph_words.specs.Calls.{AccessWords, CallWords, call_words}
+use Rattle.graph_words.specs.Draft.{Place, NewName, CallName, SpaceName, EventName, DataColumn, Fields, Value, Count, Intervals, Placed, Draft, draft, as_place, form_of, has_on, values_placed, accesses_placed, events_placed, on_placed, is_of_form, same_word, merge_draft, call_with, line_draft, decl_draft_after, decl_draft, space_draft, inst_draft, data_draft, columns_with, lock_draft, barrier_draft, barrier_with, op_of}
+use Rattle.graph_reader.specs.FirstFault.{words_fault}
+use Rattle.word_meanings.specs.WordFaults.{misnamed, misordered}
 use Rattle.graph_reader.specs.Kinds.{HasPlaces, kind_draft}
 use Rattle.graph_reader.specs.Merges.{merge_verb}
 use Rattle.graph_reader.specs.Reading.{is_operation}
-use Rattle.graph_reader.proofs.LineShapes.{line_kind}
 use Rattle.graph_reader.proofs.Public.{places_there, line_by_sign, decl_by_sign}
 use Rattle.basics.proofs.TestedLists.{found_passes}
-use Rattle.basics.proofs.Choices.{chosen}
-use Rattle.refused_words.specs.Places.{is_merge, space_place, inst_place, lock_place, barrier_place, decl_place, place_at}
+use Rattle.refused_words.specs.Places.{is_merge, is_call, space_place, columns_place, data_place, lock_place, barrier_place, decl_place, place_at}
 use Rattle.refused_words.specs.Refused.{is_phase_name, refuses, refuses_in, clashes}
 use Rattle.refused_words.specs.Laws.{HasRefusedWord, has_word}
-use Rattle.refused_words.proofs.LimitFacts.{as_merge, as_mergei}
-use Rattle.refused_words.proofs.PlaceFacts.{at, place_of_operation, place_of_decl, verb_at, merge_at, on_at, at_behind, below_behind}
-use Rattle.refused_words.proofs.WordFacts.{first_place, word_at, word_below, word_place, outside_word}
+use Rattle.refused_words.proofs.CallFacts.{after, word_stands, value_stands, event_stands, access_stands}
+use Rattle.refused_words.proofs.FormFacts.{form_cases, call_cases, declared, none_declared}
+use Rattle.refused_words.proofs.MeetFacts.{outside_word, meeting_word}
+use Rattle.refused_words.proofs.PlaceFacts.{at, IsPlain, place_of_operation, place_of_decl, verb_at, merge_at, on_at, at_behind, below_behind}
+use Rattle.refused_words.proofs.ReasonFacts.{item_test, draft_test, draft_passes, words_pass}
+use Rattle.refused_words.proofs.WordFacts.{first_place, word_at, word_below, word_place}
 
 or_true : (b : Bool) → (b || true) ≡ true
 or_true true = refl
@@ -74,18 +77,32 @@ module _ (g : GraphValue) (w : List ℕ) (t : Place → List ℕ → Bool) where
   ]
   space_shows (a ∷ b ∷ c ∷ cs) is h = absurd (true≢false (sym h))
 
-  inst_shows : (ws : List (List ℕ)) → ((k : ℕ) → k < length (w ∷ ws) → place_at g.format (w ∷ ws) k ≡ inst_place k) → Shows g (w ∷ ws) t (inst_draft g ws)
-  inst_shows [] is h = absurd (true≢false (sym h))
-  inst_shows (a ∷ []) is h = absurd (true≢false (sym h))
-  inst_shows (a ∷ b ∷ []) is h = absurd (true≢false (sym h))
-  inst_shows (a ∷ b ∷ c ∷ []) is h = elim (or_cases (t NewName a) (t SpaceName b || (t Fields c || false)) h) [
+  columns_shows : (hosted : Bool) (a b c : List ℕ) → ((k : ℕ) → k < length (w ∷ a ∷ b ∷ c ∷ []) → place_at g.format (w ∷ a ∷ b ∷ c ∷ []) k ≡ columns_place k) → Shows g (w ∷ a ∷ b ∷ c ∷ []) t (Some (columns_with g hosted a b c))
+  columns_shows hosted a b c is h = elim (or_cases (t NewName a) (t SpaceName b || (t Fields c || false)) h) [
     | inl p ↦ stands_at g (w ∷ a ∷ b ∷ c ∷ []) t 1 NewName a (omega arith) (is 1 (omega arith)) refl p
     | inr q ↦ elim (or_cases (t SpaceName b) (t Fields c || false) q) [
       | inl p ↦ stands_at g (w ∷ a ∷ b ∷ c ∷ []) t 2 SpaceName b (omega arith) (is 2 (omega arith)) refl p
       | inr r ↦ stands_at g (w ∷ a ∷ b ∷ c ∷ []) t 3 Fields c (omega arith) (is 3 (omega arith)) refl (or_last (t Fields c) r)
     ]
   ]
+
+  inst_shows : (ws : List (List ℕ)) → ((k : ℕ) → k < length (w ∷ ws) → place_at g.format (w ∷ ws) k ≡ columns_place k) → Shows g (w ∷ ws) t (inst_draft g ws)
+  inst_shows [] is h = absurd (true≢false (sym h))
+  inst_shows (a ∷ []) is h = absurd (true≢false (sym h))
+  inst_shows (a ∷ b ∷ []) is h = absurd (true≢false (sym h))
+  inst_shows (a ∷ b ∷ c ∷ []) is h = columns_shows false a b c is h
   inst_shows (a ∷ b ∷ c ∷ d ∷ ds) is h = absurd (true≢false (sym h))
+
+  data_by : (three : Bool) (a b c : List ℕ) → has_since Three g.format ≡ three → ((k : ℕ) → k < length (w ∷ a ∷ b ∷ c ∷ []) → place_at g.format (w ∷ a ∷ b ∷ c ∷ []) k ≡ data_place g.format k) → Shows g (w ∷ a ∷ b ∷ c ∷ []) t (cond three (Some (columns_with g true a b c)) None)
+  data_by false a b c e is h = absurd (true≢false (sym h))
+  data_by true a b c e is h = columns_shows true a b c (λ k l. is k l ∙ cond-true (has_since Three g.format) (columns_place k) None e) h
+
+  data_shows : (ws : List (List ℕ)) → ((k : ℕ) → k < length (w ∷ ws) → place_at g.format (w ∷ ws) k ≡ data_place g.format k) → Shows g (w ∷ ws) t (data_draft g ws)
+  data_shows [] is h = absurd (true≢false (sym h))
+  data_shows (a ∷ []) is h = absurd (true≢false (sym h))
+  data_shows (a ∷ b ∷ []) is h = absurd (true≢false (sym h))
+  data_shows (a ∷ b ∷ c ∷ []) is h = data_by (has_since Three g.format) a b c refl is h
+  data_shows (a ∷ b ∷ c ∷ d ∷ ds) is h = absurd (true≢false (sym h))
 
   lock_shows : (ws : List (List ℕ)) → ((k : ℕ) → k < length (w ∷ ws) → place_at g.format (w ∷ ws) k ≡ lock_place k) → Shows g (w ∷ ws) t (lock_draft g ws)
   lock_shows [] is h = absurd (true≢false (sym h))
@@ -112,17 +129,21 @@ module _ (g : GraphValue) (w : List ℕ) (t : Place → List ℕ → Bool) where
 
   decl_shows : (ws : List (List ℕ)) → is_operation (w ∷ ws) ≡ false → Shows g (w ∷ ws) t (decl_draft g (w ∷ ws))
   decl_shows ws other =
-      let is : (k : ℕ) → k < length (w ∷ ws) → place_at g.format (w ∷ ws) k ≡ decl_place w k = λ k l. place_of_decl g.format (w ∷ ws) k l other in
-      either_shows g (w ∷ ws) t (same_word w (codes "space")) (space_draft g ws) (cond (same_word w (codes "inst")) (inst_draft g ws) (cond (same_word w (codes "lock")) (lock_draft g ws) (cond (same_word w (codes "barrier")) (barrier_draft g ws) None)))
+      let is : (k : ℕ) → k < length (w ∷ ws) → place_at g.format (w ∷ ws) k ≡ decl_place g.format w k = λ k l. place_of_decl g.format (w ∷ ws) k l other in
+      either_shows g (w ∷ ws) t (same_word w (codes "space")) _ _
       (λ a. space_shows ws (λ k l. is k l ∙ cond-true (same_word w (codes "space")) (space_place k) _ a))
-      (λ a. either_shows g (w ∷ ws) t (same_word w (codes "inst")) (inst_draft g ws) (cond (same_word w (codes "lock")) (lock_draft g ws) (cond (same_word w (codes "barrier")) (barrier_draft g ws) None))
-      (λ b. inst_shows ws (λ k l. is k l ∙ (cond-false (same_word w (codes "space")) (space_place k) _ a ∙ cond-true (same_word w (codes "inst")) (inst_place k) _ b)))
-      (λ b. either_shows g (w ∷ ws) t (same_word w (codes "lock")) (lock_draft g ws) (cond (same_word w (codes "barrier")) (barrier_draft g ws) None)
-      (λ c. lock_shows ws (λ k l. is k l ∙ (cond-false (same_word w (codes "space")) (space_place k) _ a ∙ (cond-false (same_word w (codes "inst")) (inst_place k) _ b ∙ cond-true (same_word w (codes "lock")) (lock_place k) _ c))))
-      (λ c. either_shows g (w ∷ ws) t (same_word w (codes "barrier")) (barrier_draft g ws) None
+      (λ a. either_shows g (w ∷ ws) t (same_word w (codes "inst")) _ _
+      (λ b. inst_shows ws (λ k l. is k l ∙ (cond-false (same_word w (codes "space")) (space_place k) _ a ∙ cond-true (same_word w (codes "inst")) (columns_place k) _ b)))
+      (λ b. either_shows g (w ∷ ws) t (same_word w (codes "lock")) _ _
+      (λ c. lock_shows ws (λ k l. is k l ∙ (cond-false (same_word w (codes "space")) (space_place k) _ a ∙ (cond-false (same_word w (codes "inst")) (columns_place k) _ b ∙ cond-true (same_word w (codes "lock")) (lock_place k) _ c))))
+      (λ c. either_shows g (w ∷ ws) t (same_word w (codes "barrier")) _ _
       (λ d. barrier_shows ws (λ k l. is k l
-      ∙ (cond-false (same_word w (codes "space")) (space_place k) _ a ∙ (cond-false (same_word w (codes "inst")) (inst_place k) _ b ∙ (cond-false (same_word w (codes "lock")) (lock_place k) _ c ∙ cond-true (same_word w (codes "barrier")) (barrier_place k) None d)))))
-      (λ d h. absurd (true≢false (sym h))))))
+      ∙ (cond-false (same_word w (codes "space")) (space_place k) _ a ∙ (cond-false (same_word w (codes "inst")) (columns_place k) _ b ∙ (cond-false (same_word w (codes "lock")) (lock_place k) _ c ∙ cond-true (same_word w (codes "barrier")) (barrier_place k) _ d)))))
+      (λ d. either_shows g (w ∷ ws) t (same_word w (codes "data")) (data_draft g ws) None
+      (λ e. data_shows ws (λ k l. is k l
+      ∙ (cond-false (same_word w (codes "space")) (space_place k) _ a ∙ (cond-false (same_word w (codes "inst")) (columns_place k) _ b ∙ (cond-false (same_word w (codes "lock")) (lock_place k) _ c
+      ∙ (cond-false (same_word w (codes "barrier")) (barrier_place k) _ d ∙ cond-true (same_word w (codes "data")) (data_place g.format k) None e))))))
+      (λ e h. absurd (true≢false (sym h)))))))
 
 after_shows : (g : GraphValue) (ws : List (List ℕ)) (t : Place → List ℕ → Bool) (ls : List Line) → is_operation ws ≡ false → Shows g ws t (decl_draft_after g ls ws)
 after_shows g [] t [] other h = absurd (true≢false (sym h))
@@ -135,6 +156,23 @@ some_of t p [] h = absurd (true≢false (sym h))
 some_of t p (w ∷ ws) h = elim (or_cases (t p w) (passes t (map (λ x. (p, x)) ws)) h) [
   | inl a ↦ (0, omega arith, a)
   | inr b ↦ (let r = some_of t p ws b in (suc r.0, (let below : r.0 < length ws = r.1 in let more : suc r.0 < suc (length ws) = omega arith in more), r.2))
+]
+
+-- a word of one access of several
+record HasPassed (t : Place → List ℕ → Bool) (xs : List AccessWords) : Type 0 where
+  place : ℕ
+  access : AccessWords
+  is : slice_get xs place ≡ Some access
+  passes_one : (t DataColumn access.column ≡ true) ⊎ (t SpaceName access.space ≡ true)
+
+some_access : (t : Place → List ℕ → Bool) (xs : List AccessWords) → passes t (accesses_placed xs) ≡ true → HasPassed t xs
+some_access t [] h = absurd (true≢false (sym h))
+some_access t (x ∷ xs) h = elim (or_cases (t DataColumn x.column) (t SpaceName x.space || passes t (accesses_placed xs)) h) [
+  | inl a ↦ record { place = 0; access = x; is = refl; passes_one = inl a }
+  | inr b ↦ elim (or_cases (t SpaceName x.space) (passes t (accesses_placed xs)) b) [
+    | inl c ↦ record { place = 0; access = x; is = refl; passes_one = inr c }
+    | inr d ↦ (let r = some_access t xs d in record { place = suc r.place; access = r.access; is = r.is; passes_one = r.passes_one })
+  ]
 ]
 
 some_in : (t : Place → List ℕ → Bool) (ps : List table.Place) (ws : List (List ℕ)) → passes t (zip (map as_place ps) ws) ≡ true →
@@ -186,7 +224,7 @@ module _ (g : GraphValue) (ws : List (List ℕ)) (t : Place → List ℕ → Boo
   merge_shows ignores [] same m h = absurd (true≢false (sym h))
   merge_shows ignores (e ∷ es) same m h = merged (e ∷ es) same m h
 
-  module _ (kind : Kind) (other : is_merge (drop 2 ws) ≡ false) (found : find (λ k. is_of_form g.format (drop 2 ws) (form_of k)) KINDS ≡ Some kind) where
+  module _ (kind : Kind) (other : IsPlain (drop 2 ws)) (found : find (λ k. is_of_form g.format (drop 2 ws) (form_of k)) KINDS ≡ Some kind) where
     abbrev rest : List (List ℕ)
     rest = drop (length (kind_words kind)) (drop 2 ws)
 
@@ -229,116 +267,105 @@ module _ (g : GraphValue) (ws : List (List ℕ)) (t : Place → List ℕ → Boo
       ]
     ]
 
+  -- of a call
+  module _ (merge : is_merge (drop 2 ws) ≡ false) (called : is_call (drop 2 ws) ≡ true) (three : has_since Three g.format ≡ true) (c : CallWords) (parts : call_words (drop 1 (drop 2 ws)) ≡ Some c) where
+    value_shows : passes t (values_placed c.values) ≡ true → Stands g ws t
+    value_shows h =
+        let r = some_of t Value c.values h in
+        let s = value_stands g.format ws operation merge called three c parts r.0 r.1 in
+        stands_at g ws t (r.0 + 4) Value (at c.values r.0) s.0 s.1 s.2 r.2
+
+    access_shows : passes t (accesses_placed c.accesses) ≡ true → Stands g ws t
+    access_shows h =
+        let r = some_access t c.accesses h in
+        let n : ℕ = after r.place 1 + (length c.values + 4) in
+        let s = access_stands g.format ws operation merge called three c parts r.place r.access r.is n refl in
+        let last : n + 1 < length ws = s.below in
+        elim r.passes_one [
+          | inl a ↦ stands_at g ws t n DataColumn r.access.column (omega arith) s.column_place s.column a
+          | inr b ↦ stands_at g ws t (n + 1) SpaceName r.access.space last s.space_place s.space b
+        ]
+
+    events_show : passes t (events_placed c.events) ≡ true → Stands g ws t
+    events_show h =
+        let r = some_of t EventName c.events h in
+        let n : ℕ = after (length c.accesses) (suc r.0) + (length c.values + 4) in
+        let s = event_stands g.format ws operation merge called three c parts r.0 r.1 n refl in
+        stands_at g ws t n EventName (at c.events r.0) s.0 s.1 s.2 r.2
+
+    call_shows : Shows g ws t (Some (call_with g (at ws 0) c))
+    call_shows h = elim (or_cases (t NewName (at ws 0)) _ h) [
+      | inl a ↦ name_shows a
+      | inr b ↦ elim (or_cases (t CallName c.word) _ b) [
+        | inl a ↦ (let s = word_stands g.format ws operation merge called three c parts in stands_at g ws t 3 CallName c.word s.0 s.1 s.2 a)
+        | inr d ↦ elim (either_part t (values_placed c.values) (accesses_placed c.accesses ++ events_placed c.events) d) [
+          | inl a ↦ value_shows a
+          | inr e ↦ elim (either_part t (accesses_placed c.accesses) (events_placed c.events) e) [
+            | inl a ↦ access_shows a
+            | inr f ↦ events_show f
+          ]
+        ]
+      ]
+    ]
+
   shows_by : (o p : Option Draft) → o ≡ p → Shows g ws t p → Shows g ws t o
   shows_by o p e f h = f (sym (ap (λ x. passes t (draft_placed x)) e) ∙ h)
 
-  operation_in : (m i : Bool) → same_word (at (drop 2 ws) 0) (codes "merge") ≡ m → same_word (at (drop 2 ws) 0) (codes "mergei") ≡ i →
-      (o : Option Kind) → find (λ k. is_of_form g.format (drop 2 ws) (form_of k)) KINDS ≡ o → Shows g ws t (draft g ws)
-  operation_in true i e f o k = shows_by _ _ (line_by_sign g ws operation ∙ as_merge g (at ws 0) (drop 2 ws) (at (drop 2 ws) 0) refl e)
-      (merge_shows false (drop 1 (drop 2 ws)) refl (ap (λ b. b || same_word (at (drop 2 ws) 0) (codes "mergei")) e))
-  operation_in false true e f o k = shows_by _ _ (line_by_sign g ws operation ∙ as_mergei g (at ws 0) (drop 2 ws) (at (drop 2 ws) 0) refl e f)
-      (merge_shows true (drop 1 (drop 2 ws)) refl (ap (λ b. b || same_word (at (drop 2 ws) 0) (codes "mergei")) e ∙ f))
-  operation_in false false e f None k = shows_by _ None (line_by_sign g ws operation ∙ line_kind g (at ws 0) (drop 2 ws) (at (drop 2 ws) 0) None refl e f k) (λ h. absurd (true≢false (sym h)))
-  operation_in false false e f (Some kind) k = shows_by _ _ (line_by_sign g ws operation ∙ line_kind g (at ws 0) (drop 2 ws) (at (drop 2 ws) 0) (Some kind) refl e f k)
-      (kind_shows kind (ap (λ b. b || same_word (at (drop 2 ws) 0) (codes "mergei")) e ∙ f) k)
+  nothing_shows : Shows g ws t None
+  nothing_shows h = absurd (true≢false (sym h))
+
+  found_shows : (o : Option Kind) → find (λ k. is_of_form g.format (drop 2 ws) (form_of k)) KINDS ≡ o → IsPlain (drop 2 ws) → Shows g ws t (option_map (λ k. kind_draft g k (at ws 0) (drop (length (form_of k).words) (drop 2 ws))) o)
+  found_shows None found plain = nothing_shows
+  found_shows (Some kind) found plain = kind_shows kind plain found
+
+  operation_shows : Shows g ws t (draft g ws)
+  operation_shows = elim (form_cases g (at ws 0) (drop 2 ws)) [
+    | inl m ↦ shows_by _ _ (line_by_sign g ws operation ∙ m.1) (merge_shows m.0 (drop 1 (drop 2 ws)) refl m.2)
+    | inr later ↦ elim later [
+      | inl k ↦ elim (call_cases g (at ws 0) (drop 1 (drop 2 ws))) [
+        | inl none ↦ shows_by _ None (line_by_sign g ws operation ∙ (k.0 ∙ none)) nothing_shows
+        | inr p ↦ shows_by _ _ (line_by_sign g ws operation ∙ (k.0 ∙ p.spelled)) (call_shows k.1 k.2 p.three p.call p.parts)
+      ]
+      | inr k ↦ shows_by _ _ (line_by_sign g ws operation ∙ k.2) (found_shows k.0 k.1 k.3)
+    ]
+  ]
 
 draft_by : (g : GraphValue) (ws : List (List ℕ)) (t : Place → List ℕ → Bool) (b : Bool) → is_operation ws ≡ b → Shows g ws t (draft g ws)
 draft_by g [] t true e h = absurd (true≢false (sym e))
-draft_by g (w ∷ ws) t true e h = operation_in g (w ∷ ws) t e (omega arith) _ _ refl refl _ refl h
+draft_by g (w ∷ ws) t true e h = operation_shows g (w ∷ ws) t e (omega arith) h
 draft_by g ws t false e h = after_shows g ws t g.lines e (sym (ap (λ x. passes t (draft_placed x)) (decl_by_sign g ws e)) ∙ h)
 
 draft_shows : (g : GraphValue) (ws : List (List ℕ)) (t : Place → List ℕ → Bool) → list_any (λ (x : Place × List ℕ). t x.0 x.1) (draft_placed (draft g ws)) ≡ true → Stands g ws t
 draft_shows g ws t h = draft_by g ws t (is_operation ws) refl h
 
 -- a word that is refused by what stands in its place
-refused_in : (g : GraphValue) (ws : List (List ℕ)) (reason : Why) (w : List ℕ) (o : Option Place) → option_map_or (λ p. refuses g reason p w) o false ≡ true → option_map_or (λ p. refuses_in g ws reason p w) o false ≡ true
-refused_in g ws reason w None h = absurd (true≢false (sym h))
-refused_in g ws reason w (Some p) h = ap (λ b. b || clashes g ws reason p w) h
+refused_in : (g : GraphValue) (ws : List (List ℕ)) (reason : Why) (k : ℕ) (o : Option Place) → option_map_or (λ p. refuses g reason p (at ws k)) o false ≡ true → option_map_or (λ p. refuses_in g ws reason p k) o false ≡ true
+refused_in g ws reason k None h = absurd (true≢false (sym h))
+refused_in g ws reason k (Some p) h = ap (λ b. b || clashes g ws reason p k) h
 
 stands_refused : (g : GraphValue) (ws : List (List ℕ)) (reason : Why) → Stands g ws (refuses g reason) → HasRefusedWord g reason ws
-stands_refused g ws reason s = (s.0, s.1, inl (refused_in g ws reason (at ws s.0) (place_at g.format ws s.0) s.2))
+stands_refused g ws reason s = (s.0, s.1, inl (refused_in g ws reason s.0 (place_at g.format ws s.0) s.2))
 
--- a reason that no test has is not given
-decl_only : (a b c d : Bool) (r : Why) → (reasons.Twice ≡ r → ⊥) → (reasons.Unknown ≡ r → ⊥) → (reasons.Number ≡ r → ⊥) → (reasons.Limit ≡ r → ⊥) →
-    cond a (Some reasons.Twice) (cond b (Some reasons.Unknown) (cond c (Some reasons.Number) (cond d (Some reasons.Limit) None))) ≡ Some r → ⊥
-decl_only true b c d r p q s t h = p (same_Some reasons.Twice r h)
-decl_only false true c d r p q s t h = q (same_Some reasons.Unknown r h)
-decl_only false false true d r p q s t h = s (same_Some reasons.Number r h)
-decl_only false false false true r p q s t h = t (same_Some reasons.Limit r h)
-decl_only false false false false r p q s t h = none-some r h
+no_name : (g : GraphValue) (i : Decl ⊎ Line) → item_test g reasons.Name i ≡ false
+no_name g (inl d) = refl
+no_name g (inr l) = refl
 
-line_only : (a b c d e f i : Bool) (r : Why) → (reasons.Twice ≡ r → ⊥) → (reasons.Unknown ≡ r → ⊥) → (reasons.Kind ≡ r → ⊥) → (reasons.Number ≡ r → ⊥) → (reasons.Outside ≡ r → ⊥) → (reasons.Arrivals ≡ r → ⊥) → (reasons.Limit ≡ r → ⊥) →
-    cond a (Some reasons.Twice) (cond b (Some reasons.Unknown) (cond c (Some reasons.Kind) (cond d (Some reasons.Number) (cond e (Some reasons.Outside) (cond f (Some reasons.Arrivals) (cond i (Some reasons.Limit) None)))))) ≡ Some r → ⊥
-line_only true b c d e f i r p q s t u v x h = p (same_Some reasons.Twice r h)
-line_only false true c d e f i r p q s t u v x h = q (same_Some reasons.Unknown r h)
-line_only false false true d e f i r p q s t u v x h = s (same_Some reasons.Kind r h)
-line_only false false false true e f i r p q s t u v x h = t (same_Some reasons.Number r h)
-line_only false false false false true f i r p q s t u v x h = u (same_Some reasons.Outside r h)
-line_only false false false false false true i r p q s t u v x h = v (same_Some reasons.Arrivals r h)
-line_only false false false false false false true r p q s t u v x h = x (same_Some reasons.Limit r h)
-line_only false false false false false false false r p q s t u v x h = none-some r h
-
-no_name : (g : GraphValue) (i : Decl ⊎ Line) → item_fault g i ≡ Some reasons.Name → ⊥
-no_name g (inl d) h = decl_only _ _ _ _ reasons.Name (λ e. cc) (λ e. cc) (λ e. cc) (λ e. cc) h
-no_name g (inr l) h = line_only _ _ _ _ _ _ _ reasons.Name (λ e. cc) (λ e. cc) (λ e. cc) (λ e. cc) (λ e. cc) (λ e. cc) (λ e. cc) h
-
-no_order : (g : GraphValue) (i : Decl ⊎ Line) → item_fault g i ≡ Some reasons.Space → ⊥
-no_order g (inl d) h = decl_only _ _ _ _ reasons.Space (λ e. cc) (λ e. cc) (λ e. cc) (λ e. cc) h
-no_order g (inr l) h = line_only _ _ _ _ _ _ _ reasons.Space (λ e. cc) (λ e. cc) (λ e. cc) (λ e. cc) (λ e. cc) (λ e. cc) (λ e. cc) h
-
-words_name : (a b c d e f : Bool) (item : Option Why) → (item ≡ Some reasons.Name → ⊥) →
-    or_else (cond a (Some reasons.Name) (cond b (Some reasons.Twice) (cond c (Some reasons.Unknown) (cond d (Some reasons.Kind) (cond e (Some reasons.Number) (cond f (Some reasons.Space) None)))))) item ≡ Some reasons.Name → a ≡ true
-words_name true b c d e f item none h = refl
-words_name false true c d e f item none h = absurd (cc)
-words_name false false true d e f item none h = absurd (cc)
-words_name false false false true e f item none h = absurd (cc)
-words_name false false false false true f item none h = absurd (cc)
-words_name false false false false false true item none h = absurd (cc)
-words_name false false false false false false item none h = absurd (none h)
-
-words_order : (a b c d e f : Bool) (item : Option Why) → (item ≡ Some reasons.Space → ⊥) →
-    or_else (cond a (Some reasons.Name) (cond b (Some reasons.Twice) (cond c (Some reasons.Unknown) (cond d (Some reasons.Kind) (cond e (Some reasons.Number) (cond f (Some reasons.Space) None)))))) item ≡ Some reasons.Space → f ≡ true
-words_order true b c d e f item none h = absurd (cc)
-words_order false true c d e f item none h = absurd (cc)
-words_order false false true d e f item none h = absurd (cc)
-words_order false false false true e f item none h = absurd (cc)
-words_order false false false false true f item none h = absurd (cc)
-words_order false false false false false true item none h = refl
-words_order false false false false false false item none h = absurd (none h)
-
-draft_name : (g : GraphValue) (o : Option Draft) → option_map_or (draft_fault g) o (Some reasons.Syntax) ≡ Some reasons.Name → passes (misnamed g.format) (draft_placed o) ≡ true
-draft_name g None h = absurd (cc)
-draft_name g (Some d) h = words_name _ _ _ _ _ _ (item_fault g d.item) (no_name g d.item) h
-
-draft_order : (g : GraphValue) (o : Option Draft) → option_map_or (draft_fault g) o (Some reasons.Syntax) ≡ Some reasons.Space → passes misordered (draft_placed o) ≡ true
-draft_order g None h = absurd (cc)
-draft_order g (Some d) h = words_order _ _ _ _ _ _ (item_fault g d.item) (no_order g d.item) h
-
-filled : (g : GraphValue) (ws : List (List ℕ)) (r : Why) → (reasons.Syntax ≡ r → ⊥) → words_fault g ws ≡ Some r → option_map_or (draft_fault g) (draft g ws) (Some reasons.Syntax) ≡ Some r
-filled g ws r other h = elim (chosen (list_any is_empty ws) (Some reasons.Syntax) _ (Some r) h) [
-  | inl e ↦ absurd (other (same_Some reasons.Syntax r e.1))
-  | inr e ↦ e.1
-]
+no_order : (g : GraphValue) (i : Decl ⊎ Line) → item_test g reasons.Space i ≡ false
+no_order g (inl d) = refl
+no_order g (inr l) = refl
 
 name_word : (g : GraphValue) (ws : List (List ℕ)) → words_fault g ws ≡ Some reasons.Name → HasRefusedWord g reasons.Name ws
-name_word g ws h = stands_refused g ws reasons.Name (draft_shows g ws (misnamed g.format) (draft_name g (draft g ws) (filled g ws reasons.Name (λ e. cc) h)))
+name_word g ws h = stands_refused g ws reasons.Name (draft_shows g ws (misnamed g.format) (words_pass g reasons.Name ws (λ e. cc) (no_name g) h))
 
 space_word : (g : GraphValue) (ws : List (List ℕ)) → words_fault g ws ≡ Some reasons.Space → HasRefusedWord g reasons.Space ws
-space_word g ws h = stands_refused g ws reasons.Space (draft_shows g ws misordered (draft_order g (draft g ws) (filled g ws reasons.Space (λ e. cc) h)))
+space_word g ws h = stands_refused g ws reasons.Space (draft_shows g ws misordered (words_pass g reasons.Space ws (λ e. cc) (no_order g) h))
 
 -- an arrival names a phase
-abbrev item_late : GraphValue → Decl ⊎ Line → Bool
-item_late g (inl d) = false
-item_late g (inr l) = arrives_late g l.verb
-
-abbrev draft_late : GraphValue → Option Draft → Bool
-draft_late g o = option_map_or (λ (d : Draft). item_late g d.item) o false
-
 abbrev phase_test : Place → List ℕ → Bool
 phase_test p w = is_phase_name p
 
 abbrev NamesPhase : GraphValue → Option Draft → Type 0
-NamesPhase g o = draft_late g o ≡ true → passes phase_test (draft_placed o) ≡ true
+NamesPhase g o = draft_test g reasons.Arrivals o ≡ true → passes phase_test (draft_placed o) ≡ true
 
 kind_late : (g : GraphValue) (kind : Kind) (name : List ℕ) (rest : List (List ℕ)) → HasPlaces kind rest → NamesPhase g (Some (kind_draft g kind name rest))
 kind_late g kinds.Arrive name [] there h = absurd (let l : 2 ≤ 0 = there in omega arith)
@@ -355,96 +382,36 @@ merge_late g name false (e ∷ es) h = absurd (true≢false (sym h))
 late_by : (g : GraphValue) (o p : Option Draft) → o ≡ p → NamesPhase g p → NamesPhase g o
 late_by g o p e f = subst (λ x. NamesPhase g x) (sym e) f
 
-late_in : (g : GraphValue) (name : List ℕ) (ws : List (List ℕ)) (m i : Bool) → same_word (at ws 0) (codes "merge") ≡ m → same_word (at ws 0) (codes "mergei") ≡ i →
-    (o : Option Kind) → find (λ k. is_of_form g.format ws (form_of k)) KINDS ≡ o → NamesPhase g (line_draft g name ws)
-late_in g name ws true i e f o k = late_by g _ _ (as_merge g name ws (at ws 0) refl e) (merge_late g name false (drop 1 ws))
-late_in g name ws false true e f o k = late_by g _ _ (as_mergei g name ws (at ws 0) refl e f) (merge_late g name true (drop 1 ws))
-late_in g name ws false false e f None k = late_by g _ None (line_kind g name ws (at ws 0) None refl e f k) (λ h. absurd (true≢false (sym h)))
-late_in g name ws false false e f (Some kind) k = late_by g _ _ (line_kind g name ws (at ws 0) (Some kind) refl e f k)
-    (kind_late g kind name (drop (length (form_of kind).words) ws) (places_there g.format kind ws (found_passes (λ x. is_of_form g.format ws (form_of x)) KINDS kind k)))
+none_late : (g : GraphValue) → NamesPhase g None
+none_late g h = absurd (true≢false (sym h))
 
-space_late : (g : GraphValue) (ws : List (List ℕ)) → draft_late g (space_draft g ws) ≡ false
-space_late g [] = refl
-space_late g (a ∷ []) = refl
-space_late g (a ∷ b ∷ []) = refl
-space_late g (a ∷ b ∷ c ∷ cs) = refl
+found_late : (g : GraphValue) (name : List ℕ) (ws : List (List ℕ)) (o : Option Kind) → find (λ k. is_of_form g.format ws (form_of k)) KINDS ≡ o → NamesPhase g (option_map (λ k. kind_draft g k name (drop (length (form_of k).words) ws)) o)
+found_late g name ws None found = none_late g
+found_late g name ws (Some kind) found = kind_late g kind name (drop (length (form_of kind).words) ws) (places_there g.format kind ws (found_passes (λ x. is_of_form g.format ws (form_of x)) KINDS kind found))
 
-inst_late : (g : GraphValue) (ws : List (List ℕ)) → draft_late g (inst_draft g ws) ≡ false
-inst_late g [] = refl
-inst_late g (a ∷ []) = refl
-inst_late g (a ∷ b ∷ []) = refl
-inst_late g (a ∷ b ∷ c ∷ []) = refl
-inst_late g (a ∷ b ∷ c ∷ d ∷ ds) = refl
-
-lock_late : (g : GraphValue) (ws : List (List ℕ)) → draft_late g (lock_draft g ws) ≡ false
-lock_late g [] = refl
-lock_late g (a ∷ []) = refl
-lock_late g (a ∷ b ∷ bs) = refl
-
-barrier_late_by : (g : GraphValue) (a b d : List ℕ) (o : Option Op) → draft_late g (option_map (λ op. barrier_with g.format a b op d) o) ≡ false
-barrier_late_by g a b d None = refl
-barrier_late_by g a b d (Some op) = refl
-
-barrier_late : (g : GraphValue) (ws : List (List ℕ)) → draft_late g (barrier_draft g ws) ≡ false
-barrier_late g [] = refl
-barrier_late g (a ∷ []) = refl
-barrier_late g (a ∷ b ∷ []) = refl
-barrier_late g (a ∷ b ∷ c ∷ []) = refl
-barrier_late g (a ∷ b ∷ c ∷ d ∷ []) = barrier_late_by g a b d (op_of c)
-barrier_late g (a ∷ b ∷ c ∷ d ∷ e ∷ es) = refl
-
-either_late : (g : GraphValue) (b : Bool) (x y : Option Draft) → draft_late g x ≡ false → draft_late g y ≡ false → draft_late g (cond b x y) ≡ false
-either_late g true x y h k = h
-either_late g false x y h k = k
-
-after_late : (g : GraphValue) (ls : List Line) (ws : List (List ℕ)) → draft_late g (decl_draft_after g ls ws) ≡ false
-after_late g [] [] = refl
-after_late g [] (w ∷ ws) =
-    either_late g (same_word w (codes "space")) _ _ (space_late g ws)
-    (either_late g (same_word w (codes "inst")) _ _ (inst_late g ws)
-    (either_late g (same_word w (codes "lock")) _ _ (lock_late g ws)
-    (either_late g (same_word w (codes "barrier")) _ _ (barrier_late g ws) refl)))
-after_late g (l ∷ ls) ws = refl
+line_late : (g : GraphValue) (name : List ℕ) (ws : List (List ℕ)) → NamesPhase g (line_draft g name ws)
+line_late g name ws = elim (form_cases g name ws) [
+  | inl m ↦ late_by g _ _ m.1 (merge_late g name m.0 (drop 1 ws))
+  | inr later ↦ elim later [
+    | inl k ↦ elim (call_cases g name (drop 1 ws)) [
+      | inl none ↦ late_by g _ None (k.0 ∙ none) (none_late g)
+      | inr p ↦ late_by g _ _ (k.0 ∙ p.spelled) (λ h. absurd (true≢false (sym h)))
+    ]
+    | inr k ↦ late_by g _ _ k.2 (found_late g name ws k.0 k.1)
+  ]
+]
 
 draft_phase : (g : GraphValue) (ws : List (List ℕ)) (b : Bool) → is_operation ws ≡ b → NamesPhase g (draft g ws)
-draft_phase g ws true e h = late_by g _ _ (line_by_sign g ws e) (late_in g (at ws 0) (drop 2 ws) _ _ refl refl _ refl) h
-draft_phase g ws false e h = absurd (true≢false (sym h ∙ (ap (draft_late g) (decl_by_sign g ws e) ∙ after_late g g.lines ws)))
-
-line_late : (a b c d e f i : Bool) →
-    cond a (Some reasons.Twice) (cond b (Some reasons.Unknown) (cond c (Some reasons.Kind) (cond d (Some reasons.Number) (cond e (Some reasons.Outside) (cond f (Some reasons.Arrivals) (cond i (Some reasons.Limit) None)))))) ≡ Some reasons.Arrivals → f ≡ true
-line_late true b c d e f i h = absurd (cc)
-line_late false true c d e f i h = absurd (cc)
-line_late false false true d e f i h = absurd (cc)
-line_late false false false true e f i h = absurd (cc)
-line_late false false false false true f i h = absurd (cc)
-line_late false false false false false true i h = refl
-line_late false false false false false false true h = absurd (cc)
-line_late false false false false false false false h = absurd (none-some reasons.Arrivals h)
-
-words_late : (a b c d e f : Bool) (item : Option Why) →
-    or_else (cond a (Some reasons.Name) (cond b (Some reasons.Twice) (cond c (Some reasons.Unknown) (cond d (Some reasons.Kind) (cond e (Some reasons.Number) (cond f (Some reasons.Space) None)))))) item ≡ Some reasons.Arrivals → item ≡ Some reasons.Arrivals
-words_late true b c d e f item h = absurd (cc)
-words_late false true c d e f item h = absurd (cc)
-words_late false false true d e f item h = absurd (cc)
-words_late false false false true e f item h = absurd (cc)
-words_late false false false false true f item h = absurd (cc)
-words_late false false false false false true item h = absurd (cc)
-words_late false false false false false false item h = h
-
-arrives : (g : GraphValue) (i : Decl ⊎ Line) → item_fault g i ≡ Some reasons.Arrivals → item_late g i ≡ true
-arrives g (inl d) h = absurd (decl_only _ _ _ _ reasons.Arrivals (λ e. cc) (λ e. cc) (λ e. cc) (λ e. cc) h)
-arrives g (inr l) h = line_late _ _ _ _ _ (arrives_late g l.verb) _ h
-
-draft_arrives : (g : GraphValue) (o : Option Draft) → option_map_or (draft_fault g) o (Some reasons.Syntax) ≡ Some reasons.Arrivals → draft_late g o ≡ true
-draft_arrives g None h = absurd (cc)
-draft_arrives g (Some d) h = arrives g d.item (words_late _ _ _ _ _ _ (item_fault g d.item) h)
+draft_phase g ws true e h = late_by g _ _ (line_by_sign g ws e) (line_late g (at ws 0) (drop 2 ws)) h
+draft_phase g ws false e h = absurd (true≢false (sym h ∙ none_declared (item_test g reasons.Arrivals) false (draft g ws) (declared g ws e) (λ d. refl)))
 
 arrivals_word : (g : GraphValue) (ws : List (List ℕ)) → words_fault g ws ≡ Some reasons.Arrivals → HasRefusedWord g reasons.Arrivals ws
-arrivals_word g ws h = stands_refused g ws reasons.Arrivals (draft_shows g ws phase_test (draft_phase g ws (is_operation ws) refl (draft_arrives g (draft g ws) (filled g ws reasons.Arrivals (λ e. cc) h))))
+arrivals_word g ws h = stands_refused g ws reasons.Arrivals (draft_shows g ws phase_test (draft_phase g ws (is_operation ws) refl (draft_passes g reasons.Arrivals ws (λ e. cc) (λ ps. refl) h)))
 
 pub refused_word : (g : GraphValue) (reason : Why) (ws : List (List ℕ)) → has_word reason ≡ true → words_fault g ws ≡ Some reason → HasRefusedWord g reason ws
 refused_word g reasons.Name ws is h = name_word g ws h
 refused_word g reasons.Space ws is h = space_word g ws h
 refused_word g reasons.Outside ws is h = outside_word g ws h
+refused_word g reasons.Meets ws is h = meeting_word g ws h
 refused_word g reasons.Arrivals ws is h = arrivals_word g ws h
 refused_word g reason ws is h = absurd (true≢false (sym is))

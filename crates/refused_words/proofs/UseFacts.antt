@@ -1,16 +1,13 @@
 -- The columns that a line of a kind uses, place by place.
-use Rattle.std.proofs.Common.{◌≡◌, ℕ, zero, suc, ◌<◌, ◌≤◌, Bool, true, false, cond, not, ◌||◌, inl, inr, List, [], ◌∷◌, length, map, refl, sym, ◌∙◌, ap, arith}
-use Rattle.std.specs.Prelude.{Option, Some, None, slice_index, slice_get, slice_index_or, filter_map, zip, ◌==◌, ◌&&◌, nat_lt, option_map, codes}
+use Rattle.std.proofs.Common.{◌≡◌, ℕ, zero, suc, ◌<◌, ◌≤◌, Bool, true, false, not, ◌||◌, inl, inr, List, [], ◌∷◌, length, map, drop, refl, sym, ◌∙◌, ap, arith}
+use Rattle.std.specs.Prelude.{Option, Some, None, slice_index, slice_get, slice_index_or, filter_map, zip, ◌==◌, ◌&&◌, nat_lt}
 use Rattle.std.specs.Option.{option_map_or}
 use Rattle.std.specs.List.{list_any, list_all}
 use Rattle.std.proofs.lemmas.Bool.{true≢false, or_cases, false_from_ne_true, eq-eqb, lt-ltb}
 use Rattle.std.proofs.lemmas.Option.{none-some, same_Some, slice_get-get_or}
 use Rattle.std.proofs.lemmas.List.{length-map}
 use Rattle.index_spaces.specs.Space.{has_point, points}
-use Rattle.index_spaces.specs.declared.Op.{Op}
 use Rattle.graph_terms.specs.declared.verb.Access.{Access}
-use Rattle.graph_terms.specs.declared.format.Format.{Format}
-use Rattle.graph_terms.specs.declared.verb.Line.{Line}
 use Rattle.graph_terms.specs.declared.verb.Mode.{Mode}
 use Rattle.graph_terms.specs.declared.table.Kind.{Kind}
 use Rattle.graph_terms.specs.declared.table.Kind.TheVariants as kinds
@@ -21,14 +18,16 @@ use Rattle.graph_terms.specs.Fits.{access_outside}
 use Rattle.graph_terms.specs.Graph.{GraphValue, space_at, column_space}
 use Rattle.graph_terms.specs.Table.{Placed, kind_places, arrive_kind, arrive_parts, verb_parts, verb_of, is_row, NumbersFit}
 use Rattle.graph_terms.proofs.Public.{each_is_row, over_space, kind_again, parts_again}
-use Rattle.graph_words.specs.Draft.{Draft, as_place, number_in, number_in_place, column_number_of, space_number, same_word, draft, decl_draft_after, decl_draft, space_draft, inst_draft, lock_draft, barrier_draft, barrier_with, op_of, words_in}
+use Rattle.graph_words.specs.Draft.{as_place, number_in, number_in_place, column_number_of, space_number, draft, line_draft, merge_draft, words_in}
 use Rattle.graph_reader.specs.Kinds.{HasPlaces, kind_verb}
+use Rattle.graph_reader.specs.Merges.{merge_verb}
 use Rattle.graph_reader.specs.Reading.{is_operation}
 use Rattle.graph_words.specs.Words.{pieces}
 use Rattle.graph_reader.proofs.Drafts.{numbers_long}
-use Rattle.graph_reader.proofs.Public.{decl_by_sign}
-use Rattle.refused_words.specs.Refused.{draft_accesses, leaves_column}
+use Rattle.refused_words.specs.Places.{is_merge}
+use Rattle.refused_words.specs.Refused.{item_accesses, draft_accesses, leaves_column}
 use Rattle.refused_words.specs.Uses.{use_in, use_at}
+use Rattle.refused_words.proofs.FormFacts.{form_cases, declared, none_declared}
 
 -- the verb of a kind uses the columns in the places of this kind
 by_fit : (k : Kind) (ns : List ℕ) → NumbersFit k ns → length ns ≡ length (kind_places k) → verb_accesses (verb_of k ns) ≡ accesses_of (kind_places k) ns
@@ -145,51 +144,20 @@ pub no_use_at : (g : GraphValue) (column : ℕ) (ps : List table.Place) (ws : Li
 no_use_at g column ps ws k d below other = no_column g column ws k (slice_index_or ps k d) other ∙ ap (λ o. option_map_or (leaves_column g column) (use_in g ws k o) false) (sym (slice_get-get_or ps k d below))
 
 -- a declaration uses no column
-space_none : (g : GraphValue) (ws : List (List ℕ)) → draft_accesses (space_draft g ws) ≡ []
-space_none g [] = refl
-space_none g (a ∷ []) = refl
-space_none g (a ∷ b ∷ []) = refl
-space_none g (a ∷ b ∷ c ∷ cs) = refl
-
-inst_none : (g : GraphValue) (ws : List (List ℕ)) → draft_accesses (inst_draft g ws) ≡ []
-inst_none g [] = refl
-inst_none g (a ∷ []) = refl
-inst_none g (a ∷ b ∷ []) = refl
-inst_none g (a ∷ b ∷ c ∷ []) = refl
-inst_none g (a ∷ b ∷ c ∷ d ∷ ds) = refl
-
-lock_none : (g : GraphValue) (ws : List (List ℕ)) → draft_accesses (lock_draft g ws) ≡ []
-lock_none g [] = refl
-lock_none g (a ∷ []) = refl
-lock_none g (a ∷ b ∷ bs) = refl
-
-barrier_by : (format : Format) (a b d : List ℕ) (o : Option Op) → draft_accesses (option_map (λ op. barrier_with format a b op d) o) ≡ []
-barrier_by format a b d None = refl
-barrier_by format a b d (Some op) = refl
-
-barrier_none : (g : GraphValue) (ws : List (List ℕ)) → draft_accesses (barrier_draft g ws) ≡ []
-barrier_none g [] = refl
-barrier_none g (a ∷ []) = refl
-barrier_none g (a ∷ b ∷ []) = refl
-barrier_none g (a ∷ b ∷ c ∷ []) = refl
-barrier_none g (a ∷ b ∷ c ∷ d ∷ []) = barrier_by g.format a b d (op_of c)
-barrier_none g (a ∷ b ∷ c ∷ d ∷ e ∷ es) = refl
-
-either_none : (b : Bool) (x y : Option Draft) → draft_accesses x ≡ [] → draft_accesses y ≡ [] → draft_accesses (cond b x y) ≡ []
-either_none true x y h k = h
-either_none false x y h k = k
-
-decl_none : (g : GraphValue) (ws : List (List ℕ)) → draft_accesses (decl_draft g ws) ≡ []
-decl_none g [] = refl
-decl_none g (w ∷ ws) =
-    either_none (same_word w (codes "space")) _ _ (space_none g ws)
-    (either_none (same_word w (codes "inst")) _ _ (inst_none g ws)
-    (either_none (same_word w (codes "lock")) _ _ (lock_none g ws)
-    (either_none (same_word w (codes "barrier")) _ _ (barrier_none g ws) refl)))
-
-after_none : (g : GraphValue) (ls : List Line) (ws : List (List ℕ)) → draft_accesses (decl_draft_after g ls ws) ≡ []
-after_none g [] ws = decl_none g ws
-after_none g (l ∷ ls) ws = refl
-
 pub declared_none : (g : GraphValue) (ws : List (List ℕ)) → is_operation ws ≡ false → draft_accesses (draft g ws) ≡ []
-declared_none g ws h = ap draft_accesses (decl_by_sign g ws h) ∙ after_none g g.lines ws
+declared_none g ws h = none_declared item_accesses [] (draft g ws) (declared g ws h) (λ d. refl)
+
+-- nor does a merge
+merge_uses : (g : GraphValue) (name : List ℕ) (ignores : Bool) (es : List (List ℕ)) → draft_accesses (merge_draft g name (merge_verb ignores) es) ≡ []
+merge_uses g name ignores [] = refl
+merge_uses g name true (e ∷ es) = refl
+merge_uses g name false (e ∷ es) = refl
+
+pub merged_none : (g : GraphValue) (name : List ℕ) (ws : List (List ℕ)) → is_merge ws ≡ true → draft_accesses (line_draft g name ws) ≡ []
+merged_none g name ws merge = elim (form_cases g name ws) [
+  | inl m ↦ ap draft_accesses m.1 ∙ merge_uses g name m.0 (drop 1 ws)
+  | inr later ↦ elim later [
+    | inl k ↦ absurd (true≢false (sym merge ∙ k.1))
+    | inr k ↦ absurd (true≢false (sym merge ∙ k.3.merge))
+  ]
+]

@@ -4,7 +4,7 @@ use Rattle.std.specs.Option.{option_map_or}
 use Rattle.graph_terms.specs.declared.verb.Verb.{Verb}
 use Rattle.graph_terms.specs.Graph.{GraphValue, line_passes, ends_user, is_release_of}
 use Rattle.graph_words.specs.Draft.{Place, UserName, AcquireName, line_number}
-use Rattle.graph_reader.specs.FirstFault.{twice}
+use Rattle.word_meanings.specs.WordFaults.{twice}
 use Rattle.refused_words.specs.Places.{place_at}
 
 -- a line with this verb ends or releases line n, as a word in this place would

@@ -24,6 +24,7 @@ abbrev pub has_word : Why → Bool
 has_word reasons.Name = true
 has_word reasons.Space = true
 has_word reasons.Outside = true
+has_word reasons.Meets = true
 has_word reasons.Arrivals = true
 has_word _ = false
 

@@ -1,4 +1,5 @@
 pub mod Places
+pub mod Meets
 pub mod Refused
 pub mod Uses
 pub mod Repeats

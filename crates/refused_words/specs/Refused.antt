@@ -1,5 +1,5 @@
 -- The first word of a line that a reason refuses.
-use Rattle.std.specs.Prelude.{◌≡◌, ℕ, ◌<◌, ◌⊎◌, nat_eq, Bool, true, false, not, ◌&&◌, ◌||◌, List, [], length, Option, Some, None, slice_index_or}
+use Rattle.std.specs.Prelude.{◌≡◌, ℕ, ◌<◌, ◌⊎◌, nat_eq, Bool, true, false, not, ◌&&◌, ◌||◌, List, [], length, Option, Some, None, is_some, slice_index_or}
 use Rattle.std.specs.List.{list_any}
 use Rattle.std.specs.Option.{option_map_or}
 use Rattle.std.specs.Str.{bytes_eq}
@@ -12,10 +12,12 @@ use Rattle.graph_terms.specs.declared.why.Why.{Why}
 use Rattle.graph_terms.specs.declared.why.Why.TheVariants as reasons
 use Rattle.graph_terms.specs.Graph.{GraphValue}
 use Rattle.graph_terms.specs.Access.{verb_accesses}
-use Rattle.graph_terms.specs.Fits.{access_outside}
+use Rattle.graph_terms.specs.Fits.{access_outside, data_outside}
 use Rattle.graph_words.specs.Words.{pieces}
-use Rattle.graph_words.specs.Draft.{Place, PhaseName, EventName, Column, Draft, draft, column_number_of}
-use Rattle.graph_reader.specs.FirstFault.{misnamed, twice, unknown, unlike, misnumbered, misordered}
+use Rattle.graph_words.specs.Draft.{Place, PhaseName, EventName, Column, DataColumn, Draft, draft, column_number_of}
+use Rattle.word_meanings.specs.WordFaults.{misnamed, twice, unknown, unlike, misnumbered, misordered}
+use Rattle.word_meanings.specs.declared.faults.Faults.{Faults}
+use Rattle.refused_words.specs.Meets.{access_at, met_word}
 use Rattle.refused_words.specs.Places.{place_at}
 
 abbrev pub is_phase_name : Place → Bool
@@ -33,7 +35,14 @@ refuses g reasons.Space p w = misordered p w
 refuses g reasons.Arrivals p w = is_phase_name p
 refuses g _ p w = false
 
--- the columns that a line uses, each over a space; a declaration uses none
+-- the same of what is to be said of a word that names one thing
+abbrev pub names_fault : Why → Faults → Bool
+names_fault reasons.Name f = f.misnamed
+names_fault reasons.Unknown f = f.unknown
+names_fault reasons.Kind f = f.unlike
+names_fault _ f = false
+
+-- the columns that a line uses, each over a space, but for a call; a declaration uses none
 abbrev pub item_accesses : Decl ⊎ Line → List Access
 item_accesses (inl d) = []
 item_accesses (inr l) = verb_accesses l.verb
@@ -45,16 +54,19 @@ draft_accesses o = option_map_or (λ (d : Draft). item_accesses d.item) o []
 abbrev pub leaves_column : GraphValue → ℕ → Access → Bool
 leaves_column g column a = nat_eq a.column column && access_outside g a
 
--- the line of these words uses the column that a word names so
-abbrev pub clashes : GraphValue → List (List ℕ) → Why → Place → List ℕ → Bool
-clashes g ws reasons.Outside Column w = list_any (leaves_column g (column_number_of g (pieces 46 w))) (draft_accesses (draft g ws))
-clashes g ws _ p w = false
+-- the line of these words uses the column that word k names so: a call in the access that this word is part of, any other line wherever it names the column.
+-- Or the access that word k is part of meets one before it in the call, and may not
+abbrev pub clashes : GraphValue → List (List ℕ) → Why → Place → ℕ → Bool
+clashes g ws reasons.Outside Column k = list_any (leaves_column g (column_number_of g (pieces 46 (slice_index_or ws k [])))) (draft_accesses (draft g ws))
+clashes g ws reasons.Outside DataColumn k = option_map_or (data_outside g) (access_at g ws k) false
+clashes g ws reasons.Meets DataColumn k = is_some (met_word g ws k)
+clashes g ws _ p k = false
 
-abbrev pub refuses_in : GraphValue → List (List ℕ) → Why → Place → List ℕ → Bool
-refuses_in g ws reason p w = refuses g reason p w || clashes g ws reason p w
+abbrev pub refuses_in : GraphValue → List (List ℕ) → Why → Place → ℕ → Bool
+refuses_in g ws reason p k = refuses g reason p (slice_index_or ws k []) || clashes g ws reason p k
 
 abbrev pub refuses_at : GraphValue → Why → List (List ℕ) → ℕ → Bool
-refuses_at g reason ws k = option_map_or (λ p. refuses_in g ws reason p (slice_index_or ws k [])) (place_at g.format ws k) false
+refuses_at g reason ws k = option_map_or (λ p. refuses_in g ws reason p k) (place_at g.format ws k) false
 
 -- two events, or two columns
 abbrev pub is_event : Option Place → Bool

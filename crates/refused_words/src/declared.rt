@@ -5,14 +5,14 @@ ghost use Rattle.std.specs.Prelude.{◌≡◌, ◌≤◌, ◌<◌, ◌+◌, ◌-
 ghost use Rattle.index_spaces.specs.Space.{space_size};
 ghost use Rattle.graph_terms.specs.Graph.{space_at};
 ghost use Rattle.graph_terms.specs.Fits.{is_inst, cell_count};
-ghost use Rattle.graph_words.specs.Draft.{op_of, decl_draft, space_draft, inst_draft, lock_draft, barrier_draft, SpaceName};
-ghost use Rattle.graph_reader.specs.Kinds.{named_number};
-ghost use Rattle.refused_words.specs.Limits.{quantity_value, limit_in, intervals_limit, inst_limit};
+ghost use Rattle.graph_words.specs.Draft.{op_of, decl_draft, space_draft, inst_draft, data_draft, lock_draft, barrier_draft, SpaceName};
+ghost use Rattle.word_meanings.specs.Telling.{named_number};
+ghost use Rattle.refused_words.specs.Limits.{quantity_value, limit_in, columns_quantity, column_count, intervals_limit, inst_limit, data_limit};
 
 use crate::limits::{Quantity, first_above, one_if, spaces, with_bound};
 use graph_model::graph::Graph;
-use graph_reader::seen::see;
 use graph_terms::decl::Decl;
+use graph_terms::format::Format;
 use graph_terms::limits::Limits;
 use graph_terms::table::Place;
 use graph_words::intervals::intervals;
@@ -20,6 +20,7 @@ use graph_words::words::{split, word};
 use index_spaces::NoMemory;
 use index_spaces::limits::MAX_INTERVALS_OF_THREE;
 use std::alloc::Global;
+use word_meanings::seen::see;
 
 /// Of a declaration.
 pub(crate) fn of_declaration(
@@ -41,6 +42,9 @@ pub(crate) fn of_declaration(
     }
     if kind == b"barrier".as_slice() {
         return Ok(of_barrier(graph, words));
+    }
+    if kind == b"data".as_slice() {
+        return of_data(alloc, graph, words);
     }
     Ok(None)
 }
@@ -112,14 +116,42 @@ fn of_fields(graph: &Graph, space: u32, fields: u64) -> Option<Quantity>
 {
     let most = Limits::of(graph.format());
     let insts = with_bound(b"instances", inst_count(graph) + 1, most.insts);
-    let count = u64::from(graph.columns()) + fields;
-    let columns = with_bound(b"columns", count, most.columns);
-    if count > most.columns {
+    let columns = columns(graph, fields);
+    if columns.value > columns.bound {
         return first_above(&[insts, columns]);
     }
     let all = cell_count(graph) + fields * points_of(graph, space);
     let cells = with_bound(b"cells", all, most.cells);
     first_above(&[insts, cells, spaces(graph, 0)])
+}
+
+/// The columns of a graph with so many more.
+fn columns(graph: &Graph, fields: u64) -> Quantity
+    requires { fields ≤ 9223372036854775807 }
+    ensures { quantity_value result ≡ columns_quantity graph.now.format (column_count graph.now + fields) }
+{
+    let count = u64::from(graph.all_columns()) + fields;
+    with_bound(b"columns", count, Limits::of(graph.format()).columns)
+}
+
+/// Of data: the columns and the spaces.
+fn of_data(alloc: Global, graph: &Graph, words: &[&[u8]]) -> Result<Option<Quantity>, NoMemory>
+    ensures { IfOk result (λ o. option_map quantity_value o ≡ limit_in graph.now (data_draft graph.now (drop 1 (contents words.now)))) }
+{
+    if !graph.format().has_since(Format::Three) || words.len() != 4 {
+        return Ok(None);
+    }
+    let _ = graph.lines();
+    let fields = split(alloc, word(words, 3), b',')?;
+    Ok(of_data_fields(graph, fields.len() as u64))
+}
+
+/// Of data of so many fields.
+fn of_data_fields(graph: &Graph, fields: u64) -> Option<Quantity>
+    requires { fields ≤ 9223372036854775807 }
+    ensures { option_map quantity_value result ≡ data_limit graph.now fields }
+{
+    first_above(&[columns(graph, fields), spaces(graph, 0)])
 }
 
 /// How many instances a graph has.

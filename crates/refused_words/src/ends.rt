@@ -7,10 +7,10 @@ ghost use Rattle.refused_words.specs.Ends.{ends, IsFirstEnding, IsEndedBy};
 
 use crate::places::{WordPlace, place_at};
 use graph_model::graph::Graph;
-use graph_reader::seen::see;
 use graph_terms::table::Place;
 use graph_terms::verb::Verb;
 use graph_words::words::word;
+use word_meanings::seen::see;
 
 /// The topmost line that ends the user event, or releases the acquire, which the word of number `k`
 /// names in a place where a line would do so again. `None` exactly where none does.

@@ -1,10 +1,11 @@
-//! Which word of a refused line is refused, which line above it has ended what that word names, and which quantity the line brings above its greatest value.
+//! Which word of a refused line is refused, which line above it has ended what that word names, or which word of it that one meets, and which quantity the line brings above its greatest value.
 #![tactic(auto)]
 
 mod declared;
 mod ends;
 pub mod laws;
 pub mod limits;
+mod meets;
 mod operations;
 mod outside;
 mod places;
@@ -15,5 +16,6 @@ mod spelled;
 
 pub use ends::ended_by;
 pub use limits::{Quantity, passed_limit};
-pub use places::{WordPlace, place_at};
+pub use meets::met_word;
+pub use places::{LineWords, WordPlace, place_at};
 pub use refused::refused_word;

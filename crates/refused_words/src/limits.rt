@@ -10,7 +10,7 @@ ghost use Rattle.refused_words.specs.Limits.{quantity_value, quantity, spaces_qu
 ghost use Rattle.refused_words.specs.declared.limits.Quantity.{Quantity};
 
 use crate::declared::of_declaration;
-use crate::operations::{of_kind, of_merge};
+use crate::operations::{of_call, of_kind, of_merge};
 use crate::places::is_operation;
 use graph_model::graph::Graph;
 use graph_terms::format::Format;
@@ -104,6 +104,9 @@ fn of_line(graph: &Graph, words: &[&[u8]]) -> Option<Quantity>
     }
     if verb == b"mergei".as_slice() {
         return of_merge(graph, words);
+    }
+    if verb == b"call".as_slice() {
+        return of_call(graph, words);
     }
     match kind_of(graph.format(), words) {
         Some(kind) => of_form(graph, kind, words),

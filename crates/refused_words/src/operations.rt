@@ -5,19 +5,20 @@ ghost use Rattle.std.specs.Prelude.{◌≡◌, ℕ, ◌≤◌, ◌+◌, Bool, Li
 ghost use Rattle.graph_terms.specs.Limits.{limits};
 ghost use Rattle.graph_terms.specs.Graph.{is_phase_of};
 ghost use Rattle.graph_terms.specs.Edges.{edges, last_place, verb_edges};
-ghost use Rattle.graph_words.specs.Draft.{merge_draft};
+ghost use Rattle.graph_words.specs.Draft.{merge_draft, call_draft};
 ghost use Rattle.graph_reader.specs.Kinds.{HasPlaces, kind_draft, kind_verb};
 ghost use Rattle.graph_reader.specs.Merges.{merge_verb};
-ghost use Rattle.refused_words.specs.Limits.{quantity_value, quantity, limit_in};
+ghost use Rattle.refused_words.specs.Limits.{quantity_value, quantity, limit_in, size_limit};
 
 use crate::limits::{Quantity, first_above, one_if, spaces, with_bound};
+use crate::places::{CallSize, call_size};
 use graph_meaning::laws::edges_between_lines;
 use graph_model::graph::Graph;
-use graph_reader::seen::see;
-use graph_terms::limits::{Limits, MAX_EDGES_OF_THREE};
+use graph_terms::limits::{Limits, MAX_CALL_ACCESSES, MAX_EDGES_OF_THREE};
 use graph_terms::table::{Kind, Place};
 use graph_terms::verb::Verb;
 use graph_words::words::{on_events, word};
+use word_meanings::seen::see;
 
 /// Of a merge, by the words behind its sign.
 pub(crate) fn of_merge(graph: &Graph, words: &[&[u8]]) -> Option<Quantity>
@@ -31,6 +32,35 @@ pub(crate) fn of_merge(graph: &Graph, words: &[&[u8]]) -> Option<Quantity>
     first_above(&[
         operations(graph),
         merged,
+        edges(graph, count),
+        spaces(graph, 0),
+    ])
+}
+
+/// Of a call, by the words behind the sign.
+pub(crate) fn of_call(graph: &Graph, words: &[&[u8]]) -> Option<Quantity>
+    requires { 1 ≤ length words.now }
+    ensures { (name : List ℕ) → option_map quantity_value result ≡ limit_in graph.now (call_draft graph.now name (drop 1 (contents words.now))) }
+{
+    match call_size(graph.format(), words) {
+        Some(size) => of_size(graph, size),
+        None => None,
+    }
+}
+
+/// Of a call of this size.
+fn of_size(graph: &Graph, size: CallSize) -> Option<Quantity>
+    requires { size.events ≤ 9223372036854775807 }
+    ensures { option_map quantity_value result ≡ size_limit graph.now size }
+{
+    let count = size.events as u64;
+    let most = u64::from(MAX_CALL_ACCESSES);
+    let accesses = with_bound(b"accesses of a call", size.accesses as u64, most);
+    let behind = events(graph, b"events behind on", count);
+    first_above(&[
+        operations(graph),
+        accesses,
+        behind,
         edges(graph, count),
         spaces(graph, 0),
     ])

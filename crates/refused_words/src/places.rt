@@ -1,20 +1,25 @@
 //! In which place each word of a line stands.
 
 ghost use Rattle.basics.specs.Words.{contents};
-ghost use Rattle.std.specs.Prelude.{◌≡◌, ◌<◌, ◌≤◌, length, option_map};
+ghost use Rattle.std.specs.Prelude.{◌≡◌, ◌<◌, ◌≤◌, ◌+◌, length, drop, option_map, None, cond, IfSome};
+ghost use Rattle.graph_words.specs.Calls.{access_words};
 ghost use Rattle.graph_reader.specs.Reading.{is_operation};
-ghost use Rattle.refused_words.specs.Places.{place_value, space_place, inst_place, lock_place, barrier_place, decl_place, is_merge, behind_kind, kind_place, verb_place, operation_place, place_at};
+ghost use Rattle.refused_words.specs.Places.{place_value, space_place, columns_place, lock_place, barrier_place, decl_place, is_merge, is_call, call_size, access_place, part_place, line_call, behind_kind, kind_place, verb_place, operation_place, place_at};
 
 use graph_terms::format::Format;
 use graph_terms::table::{Kind, Place};
+use graph_words::calls::{call_words, mode_of};
 use graph_words::words::{behind, has_on, kind_of, word};
+use std::marker::Model;
 
 /// What stands in the place of a word of a line.
 #[derive(Clone, Copy, Debug, PartialEq, Eq)]
 pub enum WordPlace {
     /// The name that the line gives.
     NewName,
-    /// The fields of an instance.
+    /// The word by which the host knows the body of a call.
+    CallName,
+    /// The fields of an instance or of data.
     Fields,
     /// How many arrivals complete a phase.
     Count,
@@ -22,24 +27,86 @@ pub enum WordPlace {
     Intervals,
     /// An event that the line waits for.
     Event,
+    /// A column of data that a call uses.
+    DataColumn,
     /// What the table of kinds has there.
     Of(Place),
 }
 
-/// In which place the word of number `k` stands, from 0. `None` for a word that only says what the
-/// line is, for one of a line without form, and where there is no such word.
-#[tactic(auto, unfolding(crate::specs::Places::place_at))]
+/// How many values, accesses and events a call has.
+#[derive(Clone, Copy)]
+pub(crate) struct CallSize {
+    pub(crate) values: usize,
+    pub(crate) accesses: usize,
+    pub(crate) events: usize,
+}
+
+/// The words of a line in a format. The place of each is found at once, however many there are.
+#[derive(Drop)]
+pub struct LineWords<'a, 'b> {
+    format: Format,
+    words: &'b [&'a [u8]],
+    /// Where the line is a call.
+    call: Option<CallSize>,
+}
+
+impl<'a, 'b> Model for LineWords<'a, 'b> {
+    ghost use Rattle.std.specs.Prelude.{◌≡◌};
+    ghost use Rattle.basics.specs.Words.{contents};
+    ghost use Rattle.refused_words.specs.Places.{WordsIn, line_call};
+
+    ghost Value = { WordsIn };
+
+    ghost view = { λ a. record { format = a.format; words = contents a.words.now } };
+
+    ghost invariant = { λ a. a.call ≡ line_call (record { format = a.format; words = contents a.words.now }) };
+}
+
+impl<'a, 'b> LineWords<'a, 'b> {
+    ghost use Rattle.std.specs.Prelude.{◌≡◌, option_map};
+    ghost use Rattle.basics.specs.Words.{contents};
+    ghost use Rattle.refused_words.specs.Places.{place_value, place_at};
+
+    /// The words of a line in a format.
+    pub fn of(format: Format, words: &'b [&'a [u8]]) -> LineWords<'a, 'b>
+        ensures { result ≡ record { format = format; words = contents words.now } }
+    {
+        LineWords {
+            format,
+            words,
+            call: line_call(format, words),
+        }
+    }
+
+    /// The words.
+    pub fn words(&self) -> &'b [&'a [u8]]
+        ensures { contents result.now ≡ self.now.words }
+    {
+        self.words
+    }
+
+    /// In which place the word of number `k` stands, from 0. `None` for a word that only says what the
+    /// line is, for one of a line without form, and where there is no such word.
+    #[tactic(auto, unfolding(crate::specs::Places::place_at))]
+    pub fn place(&self, k: usize) -> Option<WordPlace>
+        ensures { option_map place_value result ≡ place_at self.now.format self.now.words k }
+    {
+        if k >= self.words.len() {
+            return None;
+        }
+        if is_operation(self.words) {
+            operation_place(self.format, self.call, self.words, k)
+        } else {
+            decl_place(self.format, word(self.words, 0), k)
+        }
+    }
+}
+
+/// The same of one word of a line. All words of a call are looked at for it.
 pub fn place_at(format: Format, words: &[&[u8]], k: usize) -> Option<WordPlace>
     ensures { option_map place_value result ≡ place_at format (contents words.now) k }
 {
-    if k >= words.len() {
-        return None;
-    }
-    if is_operation(words) {
-        operation_place(format, words, k)
-    } else {
-        decl_place(word(words, 0), k)
-    }
+    LineWords::of(format, words).place(k)
 }
 
 /// Whether the words are those of an operation line.
@@ -50,20 +117,23 @@ pub(crate) fn is_operation(words: &[&[u8]]) -> bool
 }
 
 /// In which place a word of a declaration stands, by the first word of it.
-fn decl_place(first: &[u8], k: usize) -> Option<WordPlace>
-    ensures { option_map place_value result ≡ decl_place first.now k }
+fn decl_place(format: Format, first: &[u8], k: usize) -> Option<WordPlace>
+    ensures { option_map place_value result ≡ decl_place format first.now k }
 {
     if first == b"space".as_slice() {
         return space_place(k);
     }
     if first == b"inst".as_slice() {
-        return inst_place(k);
+        return columns_place(k);
     }
     if first == b"lock".as_slice() {
         return lock_place(k);
     }
     if first == b"barrier".as_slice() {
         return barrier_place(k);
+    }
+    if first == b"data".as_slice() && format.has_since(Format::Three) {
+        return columns_place(k);
     }
     None
 }
@@ -80,8 +150,9 @@ fn space_place(k: usize) -> Option<WordPlace>
     None
 }
 
-fn inst_place(k: usize) -> Option<WordPlace>
-    ensures { option_map place_value result ≡ inst_place k }
+/// Of an instance, and of data.
+fn columns_place(k: usize) -> Option<WordPlace>
+    ensures { option_map place_value result ≡ columns_place k }
 {
     if k == 1 {
         return Some(WordPlace::NewName);
@@ -120,8 +191,14 @@ fn barrier_place(k: usize) -> Option<WordPlace>
 }
 
 /// In which place a word of an operation line stands.
-fn operation_place(format: Format, words: &[&[u8]], k: usize) -> Option<WordPlace>
-    requires { 2 ≤ length words.now }
+fn operation_place(
+    format: Format,
+    call: Option<CallSize>,
+    words: &[&[u8]],
+    k: usize,
+) -> Option<WordPlace>
+    requires long { 2 ≤ length words.now }
+    requires call { call ≡ cond (is_call (drop 2 (contents words.now))) (call_size format (drop 2 (contents words.now))) None }
     ensures { option_map place_value result ≡ operation_place format (contents words.now) k }
 {
     if k == 0 {
@@ -130,7 +207,7 @@ fn operation_place(format: Format, words: &[&[u8]], k: usize) -> Option<WordPlac
     if k == 1 {
         return None;
     }
-    verb_place(format, behind(words, 2), k - 2)
+    verb_place(format, call, behind(words, 2), k - 2)
 }
 
 /// Whether the words behind the sign are those of a merge.
@@ -140,12 +217,28 @@ pub(crate) fn is_merge(words: &[&[u8]]) -> bool
     word(words, 0) == b"merge".as_slice() || word(words, 0) == b"mergei".as_slice()
 }
 
+/// Whether they are those of a call.
+pub(crate) fn is_call(words: &[&[u8]]) -> bool
+    ensures { result ≡ is_call (contents words.now) }
+{
+    word(words, 0) == b"call".as_slice()
+}
+
 /// In which place a word behind the sign stands.
-fn verb_place(format: Format, words: &[&[u8]], k: usize) -> Option<WordPlace>
+fn verb_place(
+    format: Format,
+    call: Option<CallSize>,
+    words: &[&[u8]],
+    k: usize,
+) -> Option<WordPlace>
+    requires { call ≡ cond (is_call (contents words.now)) (call_size format (contents words.now)) None }
     ensures { option_map place_value result ≡ verb_place format (contents words.now) k }
 {
     if is_merge(words) {
         return if k == 0 { None } else { Some(WordPlace::Event) };
+    }
+    if is_call(words) {
+        return part_place(call?, k);
     }
     match kind_of(format, words) {
         Some(kind) => kind_place(format, kind, words, k),
@@ -176,4 +269,90 @@ fn place_behind(format: Format, kind: Kind, rest: &[&[u8]], k: usize) -> Option<
         return Some(WordPlace::Event);
     }
     None
+}
+
+/// The size of the call that a line of these words is.
+fn line_call(format: Format, words: &[&[u8]]) -> Option<CallSize>
+    ensures { result ≡ line_call (record { format = format; words = contents words.now }) }
+{
+    if words.len() < 3 {
+        return None;
+    }
+    let words = behind(words, 2);
+    if is_call(words) {
+        call_size(format, words)
+    } else {
+        None
+    }
+}
+
+/// The size of a call, by the words behind the sign.
+pub(crate) fn call_size(format: Format, words: &[&[u8]]) -> Option<CallSize>
+    requires { 1 ≤ length words.now }
+    ensures size { result ≡ call_size format (contents words.now) }
+    ensures few { IfSome result (λ size. size.events ≤ 9223372036854775807) }
+{
+    if !format.has_since(Format::Three) {
+        return None;
+    }
+    let call = call_words(behind(words, 1))?;
+    Some(CallSize {
+        values: call.values.len(),
+        accesses: access_count(call.accesses),
+        events: call.events.len(),
+    })
+}
+
+/// How many accesses words begin with.
+fn access_count(words: &[&[u8]]) -> usize
+    ensures { result ≡ length (access_words (contents words.now)) }
+{
+    let mut count: usize = 0;
+    let mut rest = words;
+    while let [mode, _, _, others @ ..] = rest {
+        if mode_of(mode).is_none() {
+            return count;
+        }
+        count += 1;
+        rest = others;
+    }
+    count
+}
+
+/// In which place a word of a call stands, from the one that says that it is a call.
+fn part_place(size: CallSize, k: usize) -> Option<WordPlace>
+    ensures { option_map place_value result ≡ part_place size k }
+{
+    if k == 0 {
+        return None;
+    }
+    if k == 1 {
+        return Some(WordPlace::CallName);
+    }
+    let behind = k - 2;
+    if behind < size.values {
+        return Some(WordPlace::Of(Place::Value));
+    }
+    access_place(size.accesses, behind - size.values)
+}
+
+/// In which place a word behind the values of a call stands, by how many accesses it has: each is of
+/// three words, and `on` and its events follow.
+fn access_place(accesses: usize, k: usize) -> Option<WordPlace>
+    ensures { option_map place_value result ≡ access_place accesses k }
+{
+    if k / 3 > accesses {
+        return Some(WordPlace::Event);
+    }
+    let part = k % 3;
+    if part == 0 {
+        return None;
+    }
+    if k / 3 == accesses {
+        return Some(WordPlace::Event);
+    }
+    if part == 1 {
+        return Some(WordPlace::DataColumn);
+    }
+    Some(WordPlace::Of(Place::Space))
 }

@@ -3,22 +3,24 @@
 ghost use Rattle.basics.specs.Words.{contents};
 ghost use Rattle.std.specs.Prelude.{◌≡◌, ◌==◌, false, IfOk};
 ghost use Rattle.std.specs.Option.{option_map_or};
-ghost use Rattle.graph_words.specs.Draft.{as_place, NewName, EventName, Count};
+ghost use Rattle.graph_words.specs.Draft.{as_place, NewName, EventName, DataColumn};
 ghost use Rattle.refused_words.specs.Places.{place_value};
-ghost use Rattle.refused_words.specs.Refused.{refuses, clashes, refuses_at, IsRefusedWord};
+ghost use Rattle.refused_words.specs.Refused.{refuses, clashes, refuses_at, names_fault, IsRefusedWord};
 
-use crate::outside::leaves_column;
-use crate::places::{WordPlace, place_at};
+use crate::meets::met_by;
+use crate::outside::{leaves_data, leaves_named};
+use crate::places::{LineWords, WordPlace};
 use crate::repeats::first_repeat;
 use crate::spelled::{refuses_fields, refuses_intervals};
 use graph_model::graph::Graph;
-use graph_reader::seen::{see, see_event};
 use graph_terms::table::Place;
 use graph_terms::why::Why;
 use graph_words::numbers::count;
 use graph_words::words::word;
 use index_spaces::NoMemory;
 use std::alloc::Global;
+use word_meanings::faults::Faults;
+use word_meanings::seen::{see, see_column, see_event};
 
 /// The first word of a line that this reason refuses behind a graph, by its number from 0. `None`
 /// exactly where it refuses none of them by itself.
@@ -30,12 +32,13 @@ pub fn refused_word(
 ) -> Result<Option<usize>, NoMemory>
     ensures { IfOk result (IsRefusedWord graph.now why (contents words.now)) }
 {
-    let repeat = first_repeat(alloc, graph.format(), words, why)?;
+    let line = LineWords::of(graph.format(), words);
+    let repeat = first_repeat(alloc, &line, why)?;
     for k in 0..words.len() {
         if is_number(repeat, k) {
             return Ok(Some(k));
         }
-        if is_refused(alloc, graph, words, why, k)? {
+        if is_refused(alloc, graph, &line, why, k)? {
             return Ok(Some(k));
         }
     }
@@ -55,35 +58,34 @@ fn is_number(number: Option<usize>, k: usize) -> bool
 fn is_refused(
     alloc: Global,
     graph: &Graph,
-    words: &[&[u8]],
+    line: &LineWords,
     why: Why,
     k: usize,
 ) -> Result<bool, NoMemory>
-    ensures { IfOk result (λ b. b ≡ refuses_at graph.now why (contents words.now) k) }
+    requires { line.now.format ≡ graph.now.format }
+    ensures { IfOk result (λ b. b ≡ refuses_at graph.now why line.now.words k) }
 {
-    let Some(place) = place_at(graph.format(), words, k) else {
+    let Some(place) = line.place(k) else {
         return Ok(false);
     };
+    let words = line.words();
     let word = word(words, k);
-    if clashes(graph, words, why, place, word) {
+    if clashes(graph, line, why, place, k) {
         return Ok(true);
     }
     refuses(alloc, graph, why, place, word)
 }
 
-/// Whether the line uses the column that a word names over points that this column has not, where
-/// that is the reason.
-fn clashes(graph: &Graph, words: &[&[u8]], why: Why, place: WordPlace, word: &[u8]) -> bool
-    ensures { result ≡ clashes graph.now (contents words.now) why (place_value place) word.now }
+/// Whether the use of the column that the word of number `k` names clashes with the space of that
+/// column, or with another use before it in a call, where that is the reason.
+fn clashes(graph: &Graph, line: &LineWords, why: Why, place: WordPlace, k: usize) -> bool
+    requires { line.now.format ≡ graph.now.format }
+    ensures { result ≡ clashes graph.now line.now.words why (place_value place) k }
 {
-    match place {
-        WordPlace::Of(Place::Column(mode, over)) => match why {
-            Why::Outside => {
-                let column = see(graph, Place::Column(mode, over), word).number;
-                leaves_column(graph, words, column)
-            }
-            _ => false,
-        },
+    match (why, place) {
+        (Why::Outside, WordPlace::Of(Place::Column(..))) => leaves_named(graph, line, k),
+        (Why::Outside, WordPlace::DataColumn) => leaves_data(graph, line, k),
+        (Why::Meets, WordPlace::DataColumn) => met_by(graph, line, k).is_some(),
         _ => false,
     }
 }
@@ -100,10 +102,14 @@ fn refuses(
 {
     match place {
         WordPlace::NewName => Ok(refuses_new(graph, why, word)),
+        WordPlace::CallName => Ok(
+            matches!(why, Why::Name) && see_event(graph, word).faults.misnamed,
+        ),
         WordPlace::Fields => refuses_fields(alloc, graph.format(), why, word),
         WordPlace::Count => Ok(matches!(why, Why::Number) && count(graph.format(), word).is_none()),
         WordPlace::Intervals => refuses_intervals(alloc, why, word),
         WordPlace::Event => Ok(refuses_event(graph, why, word)),
+        WordPlace::DataColumn => Ok(refuses_data(graph, why, word)),
         WordPlace::Of(place) => Ok(refuses_of(graph, why, place, word)),
     }
 }
@@ -124,7 +130,20 @@ fn refuses_new(graph: &Graph, why: Why, word: &[u8]) -> bool
 fn refuses_event(graph: &Graph, why: Why, word: &[u8]) -> bool
     ensures { result ≡ refuses graph.now why EventName word.now }
 {
-    let faults = see_event(graph, word).faults;
+    refuses_known(why, see_event(graph, word).faults)
+}
+
+/// Whether a reason refuses the name of a column of data.
+fn refuses_data(graph: &Graph, why: Why, word: &[u8]) -> bool
+    ensures { result ≡ refuses graph.now why DataColumn word.now }
+{
+    refuses_known(why, see_column(graph, true, word).faults)
+}
+
+/// Whether a reason is among these, but for numbers and what stands there twice.
+fn refuses_known(why: Why, faults: Faults) -> bool
+    ensures { result ≡ names_fault why faults }
+{
     match why {
         Why::Name => faults.misnamed,
         Why::Unknown => faults.unknown,

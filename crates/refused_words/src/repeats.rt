@@ -1,14 +1,12 @@
 //! The first word that stands in a line twice.
 
-ghost use Rattle.basics.specs.Words.{contents};
 ghost use Rattle.std.specs.Prelude.{◌≡◌, ◌+◌, true, false, option_map, IfOk};
 ghost use Rattle.refused_words.specs.Places.{place_value, place_at};
 ghost use Rattle.refused_words.specs.Refused.{is_event, is_column, StandsBefore, IsFirstRepeat};
 ghost use Rattle.refused_words.specs.Repeats.{AreSeen};
 
-use crate::places::{WordPlace, place_at};
+use crate::places::{LineWords, WordPlace};
 use crate::seen_words::SeenWords;
-use graph_terms::format::Format;
 use graph_terms::table::Place;
 use graph_terms::why::Why;
 use graph_words::words::word;
@@ -26,27 +24,26 @@ struct Lists<'a> {
 /// the reason.
 pub(crate) fn first_repeat(
     alloc: Global,
-    format: Format,
-    words: &[&[u8]],
+    line: &LineWords,
     why: Why,
 ) -> Result<Option<usize>, NoMemory>
-    ensures { IfOk result (IsFirstRepeat format why (contents words.now)) }
+    ensures { IfOk result (IsFirstRepeat line.now.format why line.now.words) }
 {
     match why {
-        Why::Twice => first_twice(alloc, format, words),
+        Why::Twice => first_twice(alloc, line),
         _ => Ok(None),
     }
 }
 
-fn first_twice(alloc: Global, format: Format, words: &[&[u8]]) -> Result<Option<usize>, NoMemory>
-    ensures { IfOk result (IsFirstRepeat format Why.Twice (contents words.now)) }
+fn first_twice(alloc: Global, line: &LineWords) -> Result<Option<usize>, NoMemory>
+    ensures { IfOk result (IsFirstRepeat line.now.format Why.Twice line.now.words) }
 {
     let mut seen = Lists {
         events: SeenWords::new(alloc),
         columns: SeenWords::new(alloc),
     };
-    for k in 0..words.len() {
-        if stands_before(&mut seen, format, words, k)? {
+    for k in 0..line.words().len() {
+        if stands_before(&mut seen, line, k)? {
             return Ok(Some(k));
         }
     }
@@ -56,21 +53,20 @@ fn first_twice(alloc: Global, format: Format, words: &[&[u8]]) -> Result<Option<
 /// Whether the word of number `k` is among those of its kind that were seen; else it is put there.
 fn stands_before<'a>(
     seen: &mut Lists<'a>,
-    format: Format,
-    words: &[&'a [u8]],
+    line: &LineWords<'a, '_>,
     k: usize,
 ) -> Result<bool, NoMemory>
-    requires { AreSeen format (contents words.now) k seen.old.events seen.old.columns }
-    ensures there { IfOk result (λ b. b ≡ true → StandsBefore format (contents words.now) k) }
-    ensures none { IfOk result (λ b. b ≡ false → StandsBefore format (contents words.now) k → ⊥) }
-    ensures seen { IfOk result (λ b. AreSeen format (contents words.now) (k + 1) seen.new.events seen.new.columns) }
+    requires { AreSeen line.now.format line.now.words k seen.old.events seen.old.columns }
+    ensures there { IfOk result (λ b. b ≡ true → StandsBefore line.now.format line.now.words k) }
+    ensures none { IfOk result (λ b. b ≡ false → StandsBefore line.now.format line.now.words k → ⊥) }
+    ensures seen { IfOk result (λ b. AreSeen line.now.format line.now.words (k + 1) seen.new.events seen.new.columns) }
 {
-    let place = place_at(format, words, k);
+    let place = line.place(k);
     if is_event(place) {
-        return seen.events.add(word(words, k));
+        return seen.events.add(word(line.words(), k));
     }
     if is_column(place) {
-        return seen.columns.add(word(words, k));
+        return seen.columns.add(word(line.words(), k));
     }
     Ok(false)
 }

@@ -11,7 +11,7 @@ use Rattle.basics.specs.Lists.{numbers_below}
 use Rattle.graph_terms.specs.declared.outcome.End.{End}
 use Rattle.graph_terms.specs.declared.outcome.End.TheVariants.{Done, Faulted, Cancelled, Waiting}
 use Rattle.graph_terms.specs.declared.verb.Verb.{Verb}
-use Rattle.graph_terms.specs.declared.verb.Verb.TheVariants.{User, Trigger, Cancel, Merge, MergeIgnore, Phase, Arrive, Acquire, Release, Fill, Copy, Reduce, Task}
+use Rattle.graph_terms.specs.declared.verb.Verb.TheVariants.{Phase, Arrive}
 use Rattle.graph_terms.specs.Graph.{GraphValue, columns, locks, space_at, verb_at, line_passes}
 use Rattle.graph_terms.specs.Reservations.{Acquires, Releases, both_shared}
 use Rattle.graph_terms.specs.declared.outcome.Verdict.TheVariants.{Fine}
@@ -55,18 +55,7 @@ listed_for g i Waiting c ne a = accessed_listed g i c a
 -- what arrives is an arrival
 arrival_some : (g : GraphValue) (v : Verb) (a : Op × ℕ × ℕ) → arrival_by g v ≡ Some a → is_arrive v ≡ true
 arrival_some g (Arrive p n w) a e = refl
-arrival_some g User a e = absurd (none-some a e)
-arrival_some g (Trigger k) a e = absurd (none-some a e)
-arrival_some g (Cancel k) a e = absurd (none-some a e)
-arrival_some g (Merge ks) a e = absurd (none-some a e)
-arrival_some g (MergeIgnore ks) a e = absurd (none-some a e)
-arrival_some g (Phase k) a e = absurd (none-some a e)
-arrival_some g (Acquire k s) a e = absurd (none-some a e)
-arrival_some g (Release k) a e = absurd (none-some a e)
-arrival_some g (Fill t s w) a e = absurd (none-some a e)
-arrival_some g (Copy x y s) a e = absurd (none-some a e)
-arrival_some g (Reduce o x y s) a e = absurd (none-some a e)
-arrival_some g (Task k) a e = absurd (none-some a e)
+arrival_some g v a e = absurd (none-some a e)
 
 arrival_verb : (g : GraphValue) (i : ℕ) (o : Option Verb) (a : Op × ℕ × ℕ) → verb_at g i ≡ o → option_map_or (arrival_by g) o None ≡ Some a → line_passes is_arrive g i ≡ true
 arrival_verb g i None a at e = absurd (none-some a e)
@@ -80,18 +69,7 @@ arrives_is g i Waiting a e = (λ c. cc, arrival_verb g i (verb_at g i) a refl e)
 
 some_arrival : (g : GraphValue) (v : Verb) → is_arrive v ≡ true → (a : Op × ℕ × ℕ) × (arrival_by g v ≡ Some a)
 some_arrival g (Arrive p n w) h = (_, refl)
-some_arrival g User h = absurd (true≢false (sym h))
-some_arrival g (Trigger k) h = absurd (true≢false (sym h))
-some_arrival g (Cancel k) h = absurd (true≢false (sym h))
-some_arrival g (Merge ks) h = absurd (true≢false (sym h))
-some_arrival g (MergeIgnore ks) h = absurd (true≢false (sym h))
-some_arrival g (Phase k) h = absurd (true≢false (sym h))
-some_arrival g (Acquire k s) h = absurd (true≢false (sym h))
-some_arrival g (Release k) h = absurd (true≢false (sym h))
-some_arrival g (Fill t s w) h = absurd (true≢false (sym h))
-some_arrival g (Copy x y s) h = absurd (true≢false (sym h))
-some_arrival g (Reduce o x y s) h = absurd (true≢false (sym h))
-some_arrival g (Task k) h = absurd (true≢false (sym h))
+some_arrival g v h = absurd (true≢false (sym h))
 
 arrives_by : (g : GraphValue) (i : ℕ) → line_passes is_arrive g i ≡ true → (a : Op × ℕ × ℕ) × (option_map_or (arrival_by g) (verb_at g i) None ≡ Some a)
 arrives_by g i h =

@@ -69,6 +69,13 @@ impl Work {
         self.line
     }
 
+    /// Whether what it waits for cancels the line: then it does nothing.
+    pub fn is_cancelled(&self) -> bool
+        ensures { result ≡ self.now.is_cancelled }
+    {
+        self.is_cancelled
+    }
+
     /// Does the line's effect on the columns that it holds. The graph is that of the core from which
     /// the work was taken.
     pub fn perform(self, graph: &Graph) -> Finished

@@ -10,7 +10,7 @@ use Rattle.index_spaces.specs.declared.Op.TheVariants as op
 use Rattle.graph_terms.specs.declared.outcome.End.{End}
 use Rattle.graph_terms.specs.declared.outcome.End.TheVariants.{Done, Faulted, Cancelled, Waiting}
 use Rattle.graph_terms.specs.declared.verb.Verb.{Verb}
-use Rattle.graph_terms.specs.declared.verb.Verb.TheVariants.{User, Trigger, Cancel, Merge, MergeIgnore, Phase, Arrive, Acquire, Release, Fill, Copy, Reduce, Task}
+use Rattle.graph_terms.specs.declared.verb.Verb.TheVariants.{Phase, Arrive, Release}
 use Rattle.graph_terms.specs.declared.decl.BarrierInfo.{BarrierInfo}
 use Rattle.graph_terms.specs.Graph.{GraphValue, barriers, verb_at, is_release_of}
 use Rattle.graph_terms.specs.Reservations.{Acquires, Releases}
@@ -153,19 +153,8 @@ freed_lock_is q Waiting o a h = absurd (none-some a h)
 
 -- what a release frees
 frees_is : (g : GraphValue) (run : Run) (v : Verb) (a : ℕ × ℕ) → frees_by g run v ≡ Some a → (v ≡ Release a.1) × (freed_lock a.1 (end_so_far (stage_at run.stages a.1)) (lock_of g a.1) ≡ Some a)
-frees_is g run User a h = absurd (none-some a h)
-frees_is g run (Trigger k) a h = absurd (none-some a h)
-frees_is g run (Cancel k) a h = absurd (none-some a h)
-frees_is g run (Merge ks) a h = absurd (none-some a h)
-frees_is g run (MergeIgnore ks) a h = absurd (none-some a h)
-frees_is g run (Phase k) a h = absurd (none-some a h)
-frees_is g run (Arrive k n w) a h = absurd (none-some a h)
-frees_is g run (Acquire k n) a h = absurd (none-some a h)
 frees_is g run (Release k) a h = (let f = freed_lock_is k (end_so_far (stage_at run.stages k)) (lock_of g k) a h in (ap Release f.2, subst (λ z. freed_lock z (end_so_far (stage_at run.stages z)) (lock_of g z) ≡ Some a) f.2 h))
-frees_is g run (Fill t s w) a h = absurd (none-some a h)
-frees_is g run (Copy x y s) a h = absurd (none-some a h)
-frees_is g run (Reduce o x y s) a h = absurd (none-some a h)
-frees_is g run (Task k) a h = absurd (none-some a h)
+frees_is g run v a h = absurd (none-some a h)
 
 free_some-sound : {g : GraphValue} {run : Run} → Sound g run → (r : ℕ) (o : Option (ℕ × ℕ)) → ((a : ℕ × ℕ) → o ≡ Some a → MayFree g run r a.0 a.1) → Sound g (free_some run r o)
 free_some-sound s r None m = s

@@ -8,7 +8,7 @@ use Rattle.graph_terms.specs.declared.outcome.End.TheVariants.{Done, Faulted, Ca
 use Rattle.graph_terms.specs.declared.outcome.Answer.{Answer}
 use Rattle.graph_terms.specs.declared.outcome.Outcome.{Outcome}
 use Rattle.graph_terms.specs.declared.verb.Verb.{Verb}
-use Rattle.graph_terms.specs.declared.verb.Verb.TheVariants.{User, Trigger, Cancel, Merge, MergeIgnore, Phase, Arrive, Acquire, Release, Fill, Copy, Reduce, Task}
+use Rattle.graph_terms.specs.declared.verb.Verb.TheVariants.{Phase}
 use Rattle.graph_terms.specs.Graph.{GraphValue, columns, column_space, verb_at}
 use Rattle.graph_meaning.specs.Evaluation.{cells_of, column_of, evaluation, eval_end, answer_of, reduced_value, phase_value, phase_value_by, outcome}
 use Rattle.run_state.specs.Run.{Run, stage_at, place_at, end_so_far}
@@ -24,19 +24,8 @@ abbrev column_made : GraphValue → ℕ → List ℕ → ColumnValue
 column_made g c xs = record { space = column_space g c; cells = xs }
 
 phase_done : (g : GraphValue) (run : Run) (p : ℕ) (v : Verb) → ((b : ℕ) → v ≡ Phase b → slice_index run.values p ≡ reduced_value g p b) → phase_so_far_by run p Done (Some v) ≡ phase_value_by g p Done (Some v)
-phase_done g run p User h = refl
-phase_done g run p (Trigger k) h = refl
-phase_done g run p (Cancel k) h = refl
-phase_done g run p (Merge ks) h = refl
-phase_done g run p (MergeIgnore ks) h = refl
 phase_done g run p (Phase k) h = ap Some (h k refl)
-phase_done g run p (Arrive k n w) h = refl
-phase_done g run p (Acquire k s) h = refl
-phase_done g run p (Release k) h = refl
-phase_done g run p (Fill t s w) h = refl
-phase_done g run p (Copy x y s) h = refl
-phase_done g run p (Reduce o x y s) h = refl
-phase_done g run p (Task k) h = refl
+phase_done g run p v h = refl
 
 phase_same : (g : GraphValue) (run : Run) (p : ℕ) (x : End) (o : Option Verb) → ((b : ℕ) → x ≡ Done → o ≡ Some (Phase b) → slice_index run.values p ≡ reduced_value g p b) → phase_so_far_by run p x o ≡ phase_value_by g p x o
 phase_same g run p Done (Some v) h = phase_done g run p v (λ b e. h b refl (ap Some e))

@@ -15,13 +15,13 @@ use Rattle.graph_terms.specs.declared.why.Why.TheVariants as why
 use Rattle.graph_terms.specs.declared.limits.TheConstants.{MAX_TEXT, MAX_SPACES}
 use Rattle.graph_terms.specs.declared.limits.Limits.{Limits}
 use Rattle.graph_terms.specs.Limits.{limits}
-use Rattle.graph_terms.specs.Graph.{GraphValue, space_of, named_spaces, columns, locks, barriers, decl_name, line_passes, is_user, ends_user}
+use Rattle.graph_terms.specs.Graph.{GraphValue, space_of, named_spaces, columns, data_columns, locks, barriers, decl_name, line_passes, is_user, ends_user}
 use Rattle.graph_terms.specs.Edges.{edges, line_edges}
 use Rattle.graph_terms.specs.Spelling.{head, spelled, line_words, line_name}
 use Rattle.graph_terms.specs.Fits.{first_reason, is_used, with_line, line_fault, line_tests, cell_count, is_inst, has_many_spaces, is_beyond, on_unlike, names_many, format_lacks}
 use Rattle.graph_terms.proofs.Public.{head_with_line, edges_push}
 use Rattle.graph_words.specs.Draft.{line_number}
-use Rattle.graph_reader.specs.FirstFault.{is_line_name}
+use Rattle.word_meanings.specs.WordFaults.{is_line_name}
 use Rattle.graph_words.proofs.Public.{each_fails, none_where_each_fails}
 use Rattle.basics.proofs.TestedLists.{position_any}
 use Rattle.session_text.specs.declared.entry.Link.{Link}
@@ -236,7 +236,7 @@ beyond_less g ts ks l u b r h passed =
     let lines : length (g.lines ++ (ks ++ link_as l (ender b u) ∷ [])) ≤ length (g.lines ++ (ts ++ link_as l (Trigger u) ∷ [])) =
     omega (arith, length-append g.lines (ks ++ link_as l (ender b u) ∷ []), length-append g.lines (ts ++ link_as l (Trigger u) ∷ []), count_less g ts ks (link_as l (ender b u)) (link_as l (Trigger u)) r.count) in
     ap is_beyond (pushed g ks (link_as l (ender b u)))
-    ∙ four_of (nat_lt most.text (length (head T))) (has_many_spaces T) (nat_lt most.insts (length (filter is_inst g.decls))) (nat_lt most.columns (length (columns T))) (nat_lt most.cells (cell_count T)) (nat_lt most.locks (length (locks T))) (nat_lt most.barriers (length (barriers T))) (nat_lt most.lines (length T.lines)) (nat_lt most.edges (length (edges T)))
+    ∙ four_of (nat_lt most.text (length (head T))) (has_many_spaces T) (nat_lt most.insts (length (filter is_inst g.decls))) (nat_lt most.columns (length (columns T) + length (data_columns T))) (nat_lt most.cells (cell_count T)) (nat_lt most.locks (length (locks T))) (nat_lt most.barriers (length (barriers T))) (nat_lt most.lines (length T.lines)) (nat_lt most.edges (length (edges T)))
     (nat_lt most.text (length (head K))) (has_many_spaces K) (nat_lt most.lines (length K.lines)) (nat_lt most.edges (length (edges K))) all
     (less_is most.text (length (head K)) (length (head T)) text) (many_less T K refl text) (less_is most.lines (length K.lines) (length T.lines) lines) (less_is most.edges (length (edges K)) (length (edges T)) (edges_less g ts ks l u b r))
 
@@ -253,14 +253,14 @@ fits_as g ks l u true used ends passes near beyond = none_where_each_fails (line
   or_from (is_used (longer g ks) l.line) (list_any (ends_it u) (g.lines ++ ks) || false) used (or_from (list_any (ends_it u) (g.lines ++ ks)) false ends refl),
   (
     or_from (nat_le (length (g.lines ++ ks)) u || false) false (or_from (nat_le (length (g.lines ++ ks)) u) false (far_off g ks u near) refl) refl,
-    (or_from (not (line_passes is_user (longer g ks) u)) (lacks_line g.format (Trigger u)) (ap not passes) (lacks_no_ender g.format true u), (refl, (refl, (refl, (or_from (names_many g.format (Trigger u) []) (is_beyond (with_line (longer g ks) (link_as l (Trigger u)))) (names_none g.format true u) beyond, tt))))),
+    (or_from (not (line_passes is_user (longer g ks) u)) (lacks_line g.format (Trigger u)) (ap not passes) (lacks_no_ender g.format true u), (refl, (refl, (refl, (refl, (or_from (names_many g.format (Trigger u) []) (is_beyond (with_line (longer g ks) (link_as l (Trigger u)))) (names_none g.format true u) beyond, tt)))))),
   ),
 )
 fits_as g ks l u false used ends passes near beyond = none_where_each_fails (line_tests (longer g ks) (link_as l (Cancel u))) (
   or_from (is_used (longer g ks) l.line) (list_any (ends_it u) (g.lines ++ ks) || false) used (or_from (list_any (ends_it u) (g.lines ++ ks)) false ends refl),
   (
     or_from (nat_le (length (g.lines ++ ks)) u || false) false (or_from (nat_le (length (g.lines ++ ks)) u) false (far_off g ks u near) refl) refl,
-    (or_from (not (line_passes is_user (longer g ks) u)) (lacks_line g.format (Cancel u)) (ap not passes) (lacks_no_ender g.format false u), (refl, (refl, (refl, (or_from (names_many g.format (Cancel u) []) (is_beyond (with_line (longer g ks) (link_as l (Cancel u)))) (names_none g.format false u) beyond, tt))))),
+    (or_from (not (line_passes is_user (longer g ks) u)) (lacks_line g.format (Cancel u)) (ap not passes) (lacks_no_ender g.format false u), (refl, (refl, (refl, (refl, (or_from (names_many g.format (Cancel u) []) (is_beyond (with_line (longer g ks) (link_as l (Cancel u)))) (names_none g.format false u) beyond, tt)))))),
   ),
 )
 
@@ -280,7 +280,7 @@ fits_there g ts l u none =
       unused = twice.0;
       open_user = (or_parts (list_any (ends_it u) (g.lines ++ ts)) false twice.1).0;
       passes = flip (line_passes is_user T u) (or_parts (not (line_passes is_user T u)) (lacks_line g.format (Trigger u)) h.1.1.0).0;
-      beyond = (or_parts (names_many g.format (Trigger u) []) (is_beyond (with_line T (link_as l (Trigger u)))) h.1.1.1.1.1.1.0).1;
+      beyond = (or_parts (names_many g.format (Trigger u) []) (is_beyond (with_line T (link_as l (Trigger u)))) h.1.1.1.1.1.1.1.0).1;
     }
 
 -- the link fits after the second lines, whichever line it adds

@@ -17,7 +17,8 @@ use Rattle.graph_terms.specs.Fits.{first_reason, with_line, line_fault}
 use Rattle.session_text.specs.declared.entry.Link.{Link}
 use Rattle.std.proofs.lemmas.Option.{none-some, same_Some, slice_get_within, get_or_from_slice_get}
 use Rattle.graph_terms.specs.declared.why.Why.{Why}
-use Rattle.graph_reader.specs.FirstFault.{or_else, is_line_name}
+use Rattle.graph_reader.specs.FirstFault.{or_else}
+use Rattle.word_meanings.specs.WordFaults.{is_line_name}
 use Rattle.session_text.specs.declared.entry.Entry.{Entry}
 use Rattle.session_text.specs.Fits.{names_op, format_of, is_named, trigger_line, with_trigger, with_triggers, trigger_reason, link_reason, LinksFit}
 use Rattle.session_run.specs.Running.{CanLink}

@@ -3,7 +3,7 @@
 ghost use Rattle.std.specs.Prelude.{◌≡◌, true, None, OnOk, IsTrue};
 ghost use Rattle.graph_terms.specs.Fits.{line_fault};
 ghost use Rattle.graph_terms.specs.Name.{is_name_in};
-ghost use Rattle.graph_reader.specs.FirstFault.{is_line_name};
+ghost use Rattle.word_meanings.specs.WordFaults.{is_line_name};
 ghost use Rattle.session_text.specs.Fits.{trigger_line};
 ghost use Rattle.session_run.specs.Linked.{cancel_line, with_answer};
 

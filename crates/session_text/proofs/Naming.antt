@@ -14,11 +14,12 @@ use Rattle.graph_terms.specs.declared.why.Why.TheVariants as why
 use Rattle.graph_terms.specs.Graph.{GraphValue}
 use Rattle.graph_terms.specs.Names.{StandsFor}
 use Rattle.graph_terms.specs.Fits.{IsGraph, first_reason, is_used, line_fault}
-use Rattle.graph_reader.specs.FirstFault.{is_line_name, FirstFault}
+use Rattle.graph_reader.specs.FirstFault.{FirstFault}
+use Rattle.word_meanings.specs.WordFaults.{is_line_name}
 use Rattle.graph_reader.specs.Laws.{refused_line, LinesStand}
 use Rattle.graph_words.specs.Words.{pieces}
-use Rattle.graph_reader.specs.Lookups.{found_line}
-use Rattle.graph_reader.proofs.Owners.{is_found}
+use Rattle.word_meanings.specs.Lookups.{found_line}
+use Rattle.word_meanings.proofs.Public.{is_found}
 use Rattle.basics.proofs.TestedLists.{position_any}
 use Rattle.session_text.specs.declared.entry.Link.{Link}
 use Rattle.session_text.specs.Fits.{trigger_line, trigger_reason}
@@ -38,6 +39,7 @@ no_line : (o : Option Found) → ((i : ℕ) → o ≡ Some (found.Line i) → �
 no_line None n = refl
 no_line (Some (found.Space s)) n = refl
 no_line (Some (found.Inst s)) n = refl
+no_line (Some (found.Data s)) n = refl
 no_line (Some (found.Lock s)) n = refl
 no_line (Some (found.Barrier s)) n = refl
 no_line (Some (found.Line i)) n = absurd (n i refl)

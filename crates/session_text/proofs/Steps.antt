@@ -19,13 +19,15 @@ use Rattle.graph_terms.specs.Spelling.{spelled}
 use Rattle.graph_terms.specs.Fits.{IsGraph, cell_count}
 use Rattle.graph_words.specs.Words.{pieces}
 use Rattle.graph_words.specs.Text.{text, GraphText}
-use Rattle.graph_reader.specs.FirstFault.{has_newline, first_line, is_empty, or_else}
+use Rattle.graph_reader.specs.FirstFault.{has_newline, first_line, or_else}
+use Rattle.word_meanings.specs.Words.{is_empty}
 use Rattle.graph_reader.specs.Reading.{after_line}
 use Rattle.graph_words.specs.Cuts.{IsCut}
 use Rattle.graph_reader.specs.declared.ReadRefusal.{ReadRefusal}
 use Rattle.graph_reader.specs.declared.ReadRefusal.TheVariants as refusals
 use Rattle.basics.proofs.TestedLists.{same_bytes}
-use Rattle.graph_reader.proofs.Public.{joined_pieces, whole_line}
+use Rattle.graph_reader.proofs.Public.{whole_line}
+use Rattle.word_meanings.proofs.Public.{joined_pieces}
 use Rattle.graph_reader.proofs.TextTells.{one_reading}
 use Rattle.realm_audit.specs.Parts.{newlines, graph_bytes, trace_bytes}
 use Rattle.session_text.specs.declared.entry.Link.{Link}

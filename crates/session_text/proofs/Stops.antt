@@ -15,10 +15,11 @@ use Rattle.graph_terms.specs.Name.{is_name, is_name_in}
 use Rattle.graph_terms.specs.Fits.{first_reason}
 use Rattle.graph_words.specs.Words.{pieces}
 use Rattle.graph_words.specs.Text.{GraphText}
-use Rattle.graph_reader.specs.FirstFault.{has_newline, first_line, is_empty, or_else, FirstFault}
+use Rattle.graph_reader.specs.FirstFault.{has_newline, first_line, or_else, FirstFault}
+use Rattle.word_meanings.specs.Words.{is_empty, IsWord}
 use Rattle.graph_reader.specs.Reading.{after_line}
-use Rattle.graph_reader.proofs.Public.{name_is_word, word_by_test, cut_newline, cut_first, cut_after, words_line, words_pieces, spelled_rest}
-use Rattle.graph_reader.specs.Words.{IsWord}
+use Rattle.graph_reader.proofs.Public.{cut_newline, cut_first, cut_after, spelled_rest}
+use Rattle.word_meanings.proofs.Public.{name_is_word, word_by_test, words_line, words_pieces}
 use Rattle.graph_reader.proofs.TextTells.{one_reading}
 use Rattle.realm_audit.specs.Parts.{newlines, graph_bytes, trace_bytes}
 use Rattle.session_text.specs.declared.entry.Link.{Link}

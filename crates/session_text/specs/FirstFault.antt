@@ -8,7 +8,8 @@ use Rattle.graph_terms.specs.declared.format.Format.{Format}
 use Rattle.graph_terms.specs.declared.format.Format.TheVariants.{One}
 use Rattle.graph_terms.specs.Graph.{GraphValue}
 use Rattle.graph_words.specs.Words.{pieces}
-use Rattle.graph_reader.specs.FirstFault.{has_newline, first_line, is_empty, FirstFault}
+use Rattle.graph_reader.specs.FirstFault.{has_newline, first_line, FirstFault}
+use Rattle.word_meanings.specs.Words.{is_empty}
 use Rattle.graph_reader.specs.declared.ReadRefusal.{ReadRefusal}
 use Rattle.graph_reader.specs.declared.ReadRefusal.TheVariants as refusals
 use Rattle.realm_audit.specs.Parts.{graph_bytes}

@@ -14,7 +14,8 @@ use Rattle.graph_terms.specs.Graph.{GraphValue}
 use Rattle.graph_terms.specs.Name.{is_name, is_name_in}
 use Rattle.graph_terms.specs.Fits.{IsGraph, first_reason, is_used, with_line, line_fault, cell_count}
 use Rattle.graph_words.specs.Draft.{line_number}
-use Rattle.graph_reader.specs.FirstFault.{is_line_name, or_else}
+use Rattle.graph_reader.specs.FirstFault.{or_else}
+use Rattle.word_meanings.specs.WordFaults.{is_line_name}
 use Rattle.session_text.specs.declared.limits.TheConstants.{MAX_GRAPHS, MAX_SESSION_LINES}
 use Rattle.session_text.specs.declared.entry.Link.{Link}
 use Rattle.session_text.specs.declared.entry.Entry.{Entry}

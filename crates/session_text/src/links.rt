@@ -5,7 +5,7 @@ ghost use Rattle.std.specs.Prelude.{◌≡◌, ◌∷◌, [], true, false, not, 
 ghost use Rattle.std.specs.Str.{bytes_eq};
 ghost use Rattle.graph_terms.specs.Fits.{first_reason, is_used, line_fault, with_line};
 ghost use Rattle.graph_terms.specs.Name.{is_name_in};
-ghost use Rattle.graph_reader.specs.FirstFault.{is_line_name};
+ghost use Rattle.word_meanings.specs.WordFaults.{is_line_name};
 ghost use Rattle.session_text.specs.Fits.{names_op, names_op_of, format_of, is_named, trigger_reason, with_trigger};
 ghost use Rattle.session_text.specs.FirstFault.{link_of};
 ghost use Rattle.session_text.specs.SoFar.{judged_of};

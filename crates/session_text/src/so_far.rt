@@ -10,7 +10,7 @@ ghost use Rattle.index_spaces.specs.declared.limits.TheConstants.{MAX_POINTS_OF_
 ghost use Rattle.graph_terms.specs.declared.limits.TheConstants.{MAX_TEXT, MAX_CELLS, MAX_COLUMNS_OF_THREE};
 ghost use Rattle.graph_terms.specs.Name.{is_name_in};
 ghost use Rattle.graph_words.specs.Text.{GraphText};
-ghost use Rattle.graph_reader.specs.FirstFault.{is_empty};
+ghost use Rattle.word_meanings.specs.Words.{is_empty};
 ghost use Rattle.realm_audit.specs.Parts.{newlines};
 ghost use Rattle.graph_words.specs.Words.{pieces};
 ghost use Rattle.session_text.specs.Fits.{graph_reason, is_above};

@@ -4,7 +4,7 @@ ghost use Rattle.basics.specs.Words.{contents};
 ghost use Rattle.std.specs.Prelude.{◌≡◌, OnOk};
 ghost use Rattle.std.specs.List.{list_any};
 ghost use Rattle.graph_words.specs.Words.{pieces};
-ghost use Rattle.graph_reader.specs.FirstFault.{is_empty};
+ghost use Rattle.word_meanings.specs.Words.{is_empty};
 ghost use Rattle.session_text.specs.FirstFault.{word_at, is_graph_line, is_link_line};
 
 use crate::cuts::cut;

@@ -22,15 +22,15 @@ use Rattle.graph_terms.specs.declared.table.Kernel.TheVariants as kernel
 use Rattle.graph_terms.specs.declared.verb.Access.{Access}
 use Rattle.graph_terms.specs.declared.verb.Line.{Line}
 use Rattle.graph_terms.specs.declared.verb.Verb.{Verb}
-use Rattle.graph_terms.specs.declared.verb.Verb.TheVariants.{User, Trigger, Cancel, Merge, MergeIgnore, Phase, Arrive, Acquire, Release, Fill, Copy, Reduce, Task}
+use Rattle.graph_terms.specs.declared.verb.Verb.TheVariants.{Merge, MergeIgnore, Acquire, Release, Fill, Copy, Reduce, Task, Call}
 use Rattle.graph_terms.specs.declared.why.Why.TheVariants as why
-use Rattle.graph_terms.specs.Graph.{GraphValue, decl_name, lock_of, named_spaces, columns, locks, barriers, line_passes, is_acquire, is_release_of}
-use Rattle.graph_terms.specs.declared.limits.TheConstants.{MAX_TEXT, MAX_SPACES}
+use Rattle.graph_terms.specs.Graph.{GraphValue, decl_name, lock_of, named_spaces, columns, data_columns, locks, barriers, line_passes, is_acquire, is_release_of}
+use Rattle.graph_terms.specs.declared.limits.TheConstants.{MAX_TEXT, MAX_SPACES, MAX_CALL_ACCESSES, MAX_COMPARED_ACCESSES}
 use Rattle.graph_terms.specs.Limits.{limits}
 use Rattle.graph_terms.specs.Name.{is_name_in}
-use Rattle.graph_terms.specs.Access.{verb_accesses}
+use Rattle.graph_terms.specs.Access.{verb_accesses, call_accesses}
 use Rattle.graph_terms.specs.Edges.{edges, line_edges}
-use Rattle.graph_terms.specs.Fits.{first_reason, repeats, names, is_used, is_inst, cell_count, with_line, has_many_spaces, is_beyond, verb_repeats, named_lines, line_unknown, verb_unknown, verb_unlike, takes_no_on, on_unlike, format_lacks, verb_misnumbered, access_unknown, access_outside, arrives_late, merged_events, names_many, line_tests, line_fault, LinesFit}
+use Rattle.graph_terms.specs.Fits.{first_reason, repeats, names, is_used, is_inst, cell_count, with_line, has_many_spaces, is_beyond, verb_repeats, named_lines, line_unknown, verb_unknown, verb_unlike, takes_no_on, on_unlike, format_lacks, verb_misnumbered, access_unknown, access_outside, data_unknown, data_outside, accesses_clash, verb_meets, accesses_many, arrives_late, merged_events, names_many, line_tests, line_fault, LinesFit}
 use Rattle.graph_terms.specs.Spelling.{head, spelled, line_words}
 use Rattle.graph_terms.proofs.Public.{none_first, head_with_line, edges_push}
 use Rattle.flow_order.specs.Flow.{IsFlow, uses_columns}
@@ -58,9 +58,9 @@ named_after fm decls before [] f k l at = absurd (none-some l at)
 named_after fm decls before (x ∷ ls) f zero l at = subst (λ (z : Line). is_name_in fm z.name ≡ true) (same_Some x l at) f.3
 named_after fm decls before (x ∷ ls) f (suc k) l at = named_after fm decls (before ++ x ∷ []) ls f.2 k l at
 
-six_false : (a b c d e f g : Bool) → a ≡ false → b ≡ false → c ≡ false → d ≡ false → e ≡ false → f ≡ false
-    → first_reason ((a, why.Twice) ∷ (b, why.Unknown) ∷ (c, why.Kind) ∷ (d, why.Number) ∷ (e, why.Outside) ∷ (f, why.Arrivals) ∷ (g, why.Limit) ∷ []) ≡ cond g (Some why.Limit) None
-six_false a b c d e f g h1 h2 h3 h4 h5 h6 = rw (h1, h2, h3, h4, h5, h6) refl
+seven_false : (a b c d e f g h : Bool) → a ≡ false → b ≡ false → c ≡ false → d ≡ false → e ≡ false → f ≡ false → g ≡ false
+    → first_reason ((a, why.Twice) ∷ (b, why.Unknown) ∷ (c, why.Kind) ∷ (d, why.Number) ∷ (e, why.Outside) ∷ (f, why.Meets) ∷ (g, why.Arrivals) ∷ (h, why.Limit) ∷ []) ≡ cond h (Some why.Limit) None
+seven_false a b c d e f g h h1 h2 h3 h4 h5 h6 h7 = rw (h1, h2, h3, h4, h5, h6, h7) refl
 
 -- what is clear of a verb of a flow, whatever lines stand before it
 record IsClear (g : GraphValue) (v : Verb) : Type 0 where
@@ -72,38 +72,33 @@ record IsClear (g : GraphValue) (v : Verb) : Type 0 where
   late : arrives_late g v ≡ false
   merged : merged_events v ≡ []
   named : named_lines v ≡ []
+  calls : call_accesses v ≡ []
 
 own_clear : (g : GraphValue) (v : Verb) → uses_columns v ≡ true → IsClear g v
-own_clear g User h = absurd (true≢false (sym h))
-own_clear g (Trigger u) h = absurd (true≢false (sym h))
-own_clear g (Cancel u) h = absurd (true≢false (sym h))
-own_clear g (Merge es) h = absurd (true≢false (sym h))
-own_clear g (MergeIgnore es) h = absurd (true≢false (sym h))
-own_clear g (Phase u) h = absurd (true≢false (sym h))
-own_clear g (Arrive p v w) h = absurd (true≢false (sym h))
-own_clear g (Acquire l s) h = absurd (true≢false (sym h))
-own_clear g (Release q) h = absurd (true≢false (sym h))
-own_clear g (Fill t s v) h = record { twice = refl; unknown = refl; unlike = refl; bare = refl; number = refl; late = refl; merged = refl; named = refl }
-own_clear g (Copy x y s) h = record { twice = refl; unknown = refl; unlike = refl; bare = refl; number = refl; late = refl; merged = refl; named = refl }
-own_clear g (Reduce op.Sum x y s) h = record { twice = refl; unknown = refl; unlike = refl; bare = refl; number = refl; late = refl; merged = refl; named = refl }
-own_clear g (Reduce op.Min x y s) h = record { twice = refl; unknown = refl; unlike = refl; bare = refl; number = refl; late = refl; merged = refl; named = refl }
-own_clear g (Reduce op.Max x y s) h = record { twice = refl; unknown = refl; unlike = refl; bare = refl; number = refl; late = refl; merged = refl; named = refl }
-own_clear g (Task (kernel.Iota x s v)) h = record { twice = refl; unknown = refl; unlike = refl; bare = refl; number = refl; late = refl; merged = refl; named = refl }
-own_clear g (Task (kernel.Axpy x y s v)) h = record { twice = refl; unknown = refl; unlike = refl; bare = refl; number = refl; late = refl; merged = refl; named = refl }
-own_clear g (Task (kernel.Stencil x y r s)) h = record { twice = refl; unknown = refl; unlike = refl; bare = refl; number = refl; late = refl; merged = refl; named = refl }
-own_clear g (Task (kernel.Scan x y s)) h = record { twice = refl; unknown = refl; unlike = refl; bare = refl; number = refl; late = refl; merged = refl; named = refl }
-own_clear g (Task (kernel.Hist x y s t)) h = record { twice = refl; unknown = refl; unlike = refl; bare = refl; number = refl; late = refl; merged = refl; named = refl }
-own_clear g (Task (kernel.Dot x y z s t)) h = record { twice = refl; unknown = refl; unlike = refl; bare = refl; number = refl; late = refl; merged = refl; named = refl }
-own_clear g (Task (kernel.Expect x s low high)) h = record { twice = refl; unknown = refl; unlike = refl; bare = refl; number = refl; late = refl; merged = refl; named = refl }
-own_clear g (Task (kernel.Gather x y z s t)) h = record { twice = refl; unknown = refl; unlike = refl; bare = refl; number = refl; late = refl; merged = refl; named = refl }
+own_clear g (Fill t s v) h = record { twice = refl; unknown = refl; unlike = refl; bare = refl; number = refl; late = refl; merged = refl; named = refl; calls = refl }
+own_clear g (Copy x y s) h = record { twice = refl; unknown = refl; unlike = refl; bare = refl; number = refl; late = refl; merged = refl; named = refl; calls = refl }
+own_clear g (Reduce op.Sum x y s) h = record { twice = refl; unknown = refl; unlike = refl; bare = refl; number = refl; late = refl; merged = refl; named = refl; calls = refl }
+own_clear g (Reduce op.Min x y s) h = record { twice = refl; unknown = refl; unlike = refl; bare = refl; number = refl; late = refl; merged = refl; named = refl; calls = refl }
+own_clear g (Reduce op.Max x y s) h = record { twice = refl; unknown = refl; unlike = refl; bare = refl; number = refl; late = refl; merged = refl; named = refl; calls = refl }
+own_clear g (Task (kernel.Iota x s v)) h = record { twice = refl; unknown = refl; unlike = refl; bare = refl; number = refl; late = refl; merged = refl; named = refl; calls = refl }
+own_clear g (Task (kernel.Axpy x y s v)) h = record { twice = refl; unknown = refl; unlike = refl; bare = refl; number = refl; late = refl; merged = refl; named = refl; calls = refl }
+own_clear g (Task (kernel.Stencil x y r s)) h = record { twice = refl; unknown = refl; unlike = refl; bare = refl; number = refl; late = refl; merged = refl; named = refl; calls = refl }
+own_clear g (Task (kernel.Scan x y s)) h = record { twice = refl; unknown = refl; unlike = refl; bare = refl; number = refl; late = refl; merged = refl; named = refl; calls = refl }
+own_clear g (Task (kernel.Hist x y s t)) h = record { twice = refl; unknown = refl; unlike = refl; bare = refl; number = refl; late = refl; merged = refl; named = refl; calls = refl }
+own_clear g (Task (kernel.Dot x y z s t)) h = record { twice = refl; unknown = refl; unlike = refl; bare = refl; number = refl; late = refl; merged = refl; named = refl; calls = refl }
+own_clear g (Task (kernel.Expect x s low high)) h = record { twice = refl; unknown = refl; unlike = refl; bare = refl; number = refl; late = refl; merged = refl; named = refl; calls = refl }
+own_clear g (Task (kernel.Gather x y z s t)) h = record { twice = refl; unknown = refl; unlike = refl; bare = refl; number = refl; late = refl; merged = refl; named = refl; calls = refl }
+own_clear g v h = absurd (true≢false (sym h))
 
 own_in_format : (fm : Format) (v : Verb) → uses_columns v ≡ true → format_lacks fm v ≡ false
 own_in_format fm (Acquire l s) h = absurd (true≢false (sym h))
+own_in_format fm (Call call) h = absurd (true≢false (sym h))
 own_in_format fm v h = refl
 
 alone_in_format : (fm : Format) (v : Verb) → orders_alone v ≡ true → format_lacks fm v ≡ false
 alone_in_format fm (Acquire l true) h = absurd (true≢false (sym h))
 alone_in_format fm (Acquire l false) h = refl
+alone_in_format fm (Call call) h = absurd (true≢false (sym h))
 alone_in_format fm v h = refl
 
 and_no : (a b : Bool) → a ≡ false → (a && b) ≡ false
@@ -162,6 +157,14 @@ unknown_same g h xs c s = ap (λ cs. list_any (λ (a : Access). nat_le (length c
 outside_same : (g h : GraphValue) (xs : List Access) → columns g ≡ columns h → named_spaces g ≡ named_spaces h → list_any (access_outside g) xs ≡ list_any (access_outside h) xs
 outside_same g h xs c s = ap (λ cs. list_any (outside_by cs (named_spaces g)) xs) c ∙ ap (λ ss. list_any (outside_by (columns h) ss) xs) s
 
+-- a line that fits accesses known columns
+none_unknown : (g : GraphValue) (l : Line) → line_unknown g l ≡ false → list_any (access_unknown g) (verb_accesses l.verb) ≡ false
+none_unknown g l h =
+    let named : Bool = list_any (λ i. nat_le (length g.lines) i) (named_lines l.verb ++ l.on) in
+    let with_cells : Bool = list_any (access_unknown g) (verb_accesses l.verb) in
+    let of_data : Bool = list_any (data_unknown g) (call_accesses l.verb) in
+    (or_parts with_cells of_data (or_parts (verb_unknown g l.verb) (with_cells || of_data) (or_parts named (verb_unknown g l.verb || (with_cells || of_data)) h).1).1).0
+
 -- a line of a flow after other lines
 own_fault : (g own : GraphValue) → columns g ≡ columns own → named_spaces g ≡ named_spaces own → (l : Line) (name on : List ℕ) → uses_columns l.verb ≡ true → line_fault own l ≡ None → is_used g name ≡ false → ((e : ℕ) → Contains on e → e < length g.lines) → repeats nat_eq on ≡ false → length on ≤ most_on g.format →
     line_fault g (record { name = name; verb = l.verb; «on» = on }) ≡ cond (is_beyond (with_line g (record { name = name; verb = l.verb; «on» = on }))) (Some why.Limit) None
@@ -172,25 +175,29 @@ own_fault g own cols spaces l name on uses fits fresh below once few =
     let used : List ℕ = map (λ (a : Access). a.column) (verb_accesses v) in
     let twice = or_parts (verb_repeats own v) (repeats nat_eq used || repeats nat_eq l.on) (or_parts (is_used own l.name) _ (none_first (line_tests own l) fits (is_used own l.name || (verb_repeats own v || (repeats nat_eq used || repeats nat_eq l.on)), why.Twice) (0, omega arith, refl))).1 in
     let apart = or_parts (repeats nat_eq used) (repeats nat_eq l.on) twice.1 in
-    let known = or_parts _ _ (or_parts _ _ (none_first (line_tests own l) fits (line_unknown own l, why.Unknown) (1, omega arith, refl))).1 in
-    let within : list_any (access_outside own) (verb_accesses v) ≡ false = none_first (line_tests own l) fits (list_any (access_outside own) (verb_accesses v), why.Outside) (4, omega arith, refl) in
+    let known = none_unknown own l (none_first (line_tests own l) fits (line_unknown own l, why.Unknown) (1, omega arith, refl)) in
+    let beside : (list_any (access_outside own) (verb_accesses v) || list_any (data_outside own) (call_accesses v)) ≡ false =
+    none_first (line_tests own l) fits (list_any (access_outside own) (verb_accesses v) || list_any (data_outside own) (call_accesses v), why.Outside) (4, omega arith, refl) in
+    let within : list_any (access_outside own) (verb_accesses v) ≡ false = (or_parts (list_any (access_outside own) (verb_accesses v)) (list_any (data_outside own) (call_accesses v)) beside).0 in
     let none : length (merged_events v) ≡ 0 = ap length c.merged in
-    six_false (is_used g name || (verb_repeats g v || (repeats nat_eq used || repeats nat_eq on))) (line_unknown g new) (verb_unlike g v || (on_unlike g.format v on || format_lacks g.format v)) (verb_misnumbered g.format v) (list_any (access_outside g) (verb_accesses v)) (arrives_late g v) (names_many g.format v on || is_beyond (with_line g new))
+    seven_false (is_used g name || (verb_repeats g v || (repeats nat_eq used || repeats nat_eq on))) (line_unknown g new) (verb_unlike g v || (on_unlike g.format v on || format_lacks g.format v)) (verb_misnumbered g.format v) (list_any (access_outside g) (verb_accesses v) || list_any (data_outside g) (call_accesses v)) (verb_meets g v) (arrives_late g v)
+    (names_many g.format v on || (accesses_many v || is_beyond (with_line g new)))
     (both_not (is_used g name) _ fresh (both_not (verb_repeats g v) _ c.twice (both_not (repeats nat_eq used) (repeats nat_eq on) apart.0 once)))
-    (both_not (list_any (λ i. nat_le (length g.lines) i) (named_lines v ++ on)) _ (ap (λ xs. list_any (λ i. nat_le (length g.lines) i) (xs ++ on)) c.named ∙ none_past on (length g.lines) below) (both_not (verb_unknown g v) _ c.unknown (unknown_same g own (verb_accesses v) cols spaces ∙ known.1)))
+    (both_not (list_any (λ i. nat_le (length g.lines) i) (named_lines v ++ on)) _ (ap (λ xs. list_any (λ i. nat_le (length g.lines) i) (xs ++ on)) c.named ∙ none_past on (length g.lines) below) (both_not (verb_unknown g v) _ c.unknown (both_not (list_any (access_unknown g) (verb_accesses v)) _ (unknown_same g own (verb_accesses v) cols spaces ∙ known) (ap (list_any (data_unknown g)) c.calls))))
     (both_not (verb_unlike g v) _ c.unlike (both_not (on_unlike g.format v on) _ (few_events g.format v on c.bare few) (own_in_format g.format v uses)))
-    c.number (outside_same g own (verb_accesses v) cols spaces ∙ within) c.late
-    ∙ ap (λ b. cond (b || is_beyond (with_line g new)) (Some why.Limit) None) (names_few g.format v on (omega arith) few)
+    c.number (both_not (list_any (access_outside g) (verb_accesses v)) _ (outside_same g own (verb_accesses v) cols spaces ∙ within) (ap (list_any (data_outside g)) c.calls)) (ap (λ (xs : List Access). repeats (accesses_clash g) (take MAX_COMPARED_ACCESSES xs)) c.calls) c.late
+    ∙ (ap (λ b. cond (b || (accesses_many v || is_beyond (with_line g new))) (Some why.Limit) None) (names_few g.format v on (omega arith) few)
+    ∙ ap (λ (xs : List Access). cond (nat_lt MAX_CALL_ACCESSES (length xs) || is_beyond (with_line g new)) (Some why.Limit) None) c.calls)
 
 -- a merge after other lines
 merge_fault : (g : GraphValue) (name es : List ℕ) → is_used g name ≡ false → repeats nat_eq es ≡ false → 0 < length es → length es ≤ (limits g.format).events → ((e : ℕ) → Contains es e → e < length g.lines) →
     line_fault g (record { name = name; verb = Merge es; «on» = [] }) ≡ cond (is_beyond (with_line g (record { name = name; verb = Merge es; «on» = [] }))) (Some why.Limit) None
 merge_fault g name es fresh once some few below =
     let new : Line = record { name = name; verb = Merge es; «on» = [] } in
-    six_false (is_used g name || (repeats nat_eq es || false)) (line_unknown g new) (verb_unlike g (Merge es) || (on_unlike g.format (Merge es) [] || format_lacks g.format (Merge es))) (nat_lt (length es) 1) false false (names_many g.format (Merge es) [] || is_beyond (with_line g new))
+    seven_false (is_used g name || (repeats nat_eq es || false)) (line_unknown g new) (verb_unlike g (Merge es) || (on_unlike g.format (Merge es) [] || format_lacks g.format (Merge es))) (nat_lt (length es) 1) false false false (names_many g.format (Merge es) [] || is_beyond (with_line g new))
     (both_not (is_used g name) _ fresh (both_not (repeats nat_eq es) false once refl))
     (both_not (list_any (λ i. nat_le (length g.lines) i) (es ++ [])) _ (ap (list_any (λ i. nat_le (length g.lines) i)) (append-nil es) ∙ none_past es (length g.lines) below) refl)
-    (both_not (on_unlike g.format (Merge es) []) _ (no_event g.format (Merge es)) (alone_in_format g.format (Merge es) refl)) (few_not_none es some) refl refl
+    (both_not (on_unlike g.format (Merge es) []) _ (no_event g.format (Merge es)) (alone_in_format g.format (Merge es) refl)) (few_not_none es some) refl refl refl
     ∙ ap (λ b. cond (b || is_beyond (with_line g new)) (Some why.Limit) None) (names_few g.format (Merge es) [] few (let z : 0 ≤ most_on g.format = omega arith in z))
   where
     few_not_none : (es : List ℕ) → 0 < length es → nat_lt (length es) 1 ≡ false
@@ -201,49 +208,41 @@ acquire_fault : (g : GraphValue) (name : List ℕ) (lock : ℕ) (on : List ℕ) 
     line_fault g (record { name = name; verb = Acquire lock false; «on» = on }) ≡ cond (is_beyond (with_line g (record { name = name; verb = Acquire lock false; «on» = on }))) (Some why.Limit) None
 acquire_fault g name lock on fresh known below once few =
     let new : Line = record { name = name; verb = Acquire lock false; «on» = on } in
-    six_false (is_used g name || repeats nat_eq on) (line_unknown g new) (on_unlike g.format (Acquire lock false) on || format_lacks g.format (Acquire lock false)) false false false (names_many g.format (Acquire lock false) on || is_beyond (with_line g new))
+    seven_false (is_used g name || repeats nat_eq on) (line_unknown g new) (on_unlike g.format (Acquire lock false) on || format_lacks g.format (Acquire lock false)) false false false false (names_many g.format (Acquire lock false) on || is_beyond (with_line g new))
     (both_not (is_used g name) _ fresh once)
     (both_not (list_any (λ i. nat_le (length g.lines) i) on) _ (none_past on (length g.lines) below) (both_not (nat_le (length (locks g)) lock) false (false_from_ne_true (nat_le (length (locks g)) lock) (λ h. (let b : length (locks g) ≤ lock = leb-true (length (locks g)) lock h in let no : ⊥ = absurd (omega arith) in no))) refl))
-    (both_not (on_unlike g.format (Acquire lock false) on) _ (few_events g.format (Acquire lock false) on refl few) (alone_in_format g.format (Acquire lock false) refl)) refl refl refl
+    (both_not (on_unlike g.format (Acquire lock false) on) _ (few_events g.format (Acquire lock false) on refl few) (alone_in_format g.format (Acquire lock false) refl)) refl refl refl refl
     ∙ ap (λ b. cond (b || is_beyond (with_line g new)) (Some why.Limit) None) (names_few g.format (Acquire lock false) on (let z : 0 ≤ (limits g.format).events = omega arith in z) few)
 
 ignore_fault : (g : GraphValue) (name : List ℕ) (e : ℕ) → is_used g name ≡ false → e < length g.lines →
     line_fault g (record { name = name; verb = MergeIgnore (e ∷ []); «on» = [] }) ≡ cond (is_beyond (with_line g (record { name = name; verb = MergeIgnore (e ∷ []); «on» = [] }))) (Some why.Limit) None
 ignore_fault g name e fresh below =
     let new : Line = record { name = name; verb = MergeIgnore (e ∷ []); «on» = [] } in
-    six_false (is_used g name || false) (line_unknown g new) (verb_unlike g (MergeIgnore (e ∷ [])) || (on_unlike g.format (MergeIgnore (e ∷ [])) [] || format_lacks g.format (MergeIgnore (e ∷ [])))) false false false (names_many g.format (MergeIgnore (e ∷ [])) [] || is_beyond (with_line g new))
+    seven_false (is_used g name || false) (line_unknown g new) (verb_unlike g (MergeIgnore (e ∷ [])) || (on_unlike g.format (MergeIgnore (e ∷ [])) [] || format_lacks g.format (MergeIgnore (e ∷ [])))) false false false false (names_many g.format (MergeIgnore (e ∷ [])) [] || is_beyond (with_line g new))
     (both_not (is_used g name) false fresh refl)
     (both_not (list_any (λ i. nat_le (length g.lines) i) (e ∷ [])) _ (none_past (e ∷ []) (length g.lines) (λ x c. elim (contains_cases e [] x c) [ inl same ↦ subst (λ z. z < length g.lines) same below | inr none ↦ absurd (contains_none x none) ])) refl)
-    (both_not (on_unlike g.format (MergeIgnore (e ∷ [])) []) _ (no_event g.format (MergeIgnore (e ∷ []))) (alone_in_format g.format (MergeIgnore (e ∷ [])) refl)) refl refl refl
+    (both_not (on_unlike g.format (MergeIgnore (e ∷ [])) []) _ (no_event g.format (MergeIgnore (e ∷ []))) (alone_in_format g.format (MergeIgnore (e ∷ [])) refl)) refl refl refl refl
     ∙ ap (λ b. cond (b || is_beyond (with_line g new)) (Some why.Limit) None) (names_few g.format (MergeIgnore (e ∷ [])) [] (let two : 2 ≤ (limits g.format).events = some_merged g.format in let z : 1 ≤ (limits g.format).events = omega arith in z) (let z : 0 ≤ most_on g.format = omega arith in z))
 
 release_fault : (g : GraphValue) (name : List ℕ) (q e : ℕ) → is_used g name ≡ false → list_any (λ (l : Line). is_release_of q l.verb) g.lines ≡ false → line_passes is_acquire g q ≡ true → q < length g.lines → e < length g.lines →
     line_fault g (record { name = name; verb = Release q; «on» = e ∷ [] }) ≡ cond (is_beyond (with_line g (record { name = name; verb = Release q; «on» = e ∷ [] }))) (Some why.Limit) None
 release_fault g name q e fresh once acquires above below =
     let new : Line = record { name = name; verb = Release q; «on» = e ∷ [] } in
-    six_false (is_used g name || (list_any (λ (l : Line). is_release_of q l.verb) g.lines || false)) (line_unknown g new) (not (line_passes is_acquire g q) || (on_unlike g.format (Release q) (e ∷ []) || format_lacks g.format (Release q))) false false false (names_many g.format (Release q) (e ∷ []) || is_beyond (with_line g new))
+    seven_false (is_used g name || (list_any (λ (l : Line). is_release_of q l.verb) g.lines || false)) (line_unknown g new) (not (line_passes is_acquire g q) || (on_unlike g.format (Release q) (e ∷ []) || format_lacks g.format (Release q))) false false false false (names_many g.format (Release q) (e ∷ []) || is_beyond (with_line g new))
     (both_not (is_used g name) _ fresh (both_not (list_any (λ (l : Line). is_release_of q l.verb) g.lines) false once refl))
     (both_not (list_any (λ i. nat_le (length g.lines) i) (q ∷ e ∷ [])) _ (none_past (q ∷ e ∷ []) (length g.lines) (λ x c. elim (contains_cases q (e ∷ []) x c) [
       | inl same ↦ subst (λ z. z < length g.lines) same above
       | inr rest ↦ elim (contains_cases e [] x rest) [ inl same ↦ subst (λ z. z < length g.lines) same below | inr none ↦ absurd (contains_none x none) ]
     ])) refl)
-    (both_not (not (line_passes is_acquire g q)) _ (ap not acquires) (both_not (on_unlike g.format (Release q) (e ∷ [])) _ (few_events g.format (Release q) (e ∷ []) refl (one_on g.format)) (alone_in_format g.format (Release q) refl))) refl refl refl
+    (both_not (not (line_passes is_acquire g q)) _ (ap not acquires) (both_not (on_unlike g.format (Release q) (e ∷ [])) _ (few_events g.format (Release q) (e ∷ []) refl (one_on g.format)) (alone_in_format g.format (Release q) refl))) refl refl refl refl
     ∙ ap (λ b. cond (b || is_beyond (with_line g new)) (Some why.Limit) None) (names_few g.format (Release q) (e ∷ []) (let z : 0 ≤ (limits g.format).events = omega arith in z) (one_on g.format))
 
 own_releases : (q : ℕ) (v : Verb) → uses_columns v ≡ true → is_release_of q v ≡ false
-own_releases q User h = absurd (true≢false (sym h))
-own_releases q (Trigger u) h = absurd (true≢false (sym h))
-own_releases q (Cancel u) h = absurd (true≢false (sym h))
-own_releases q (Merge es) h = absurd (true≢false (sym h))
-own_releases q (MergeIgnore es) h = absurd (true≢false (sym h))
-own_releases q (Phase u) h = absurd (true≢false (sym h))
-own_releases q (Arrive p v w) h = absurd (true≢false (sym h))
-own_releases q (Acquire k s) h = absurd (true≢false (sym h))
-own_releases q (Release k) h = absurd (true≢false (sym h))
 own_releases q (Fill t s v) h = refl
 own_releases q (Copy x y s) h = refl
 own_releases q (Reduce o x y s) h = refl
 own_releases q (Task kernel) h = refl
+own_releases q v h = absurd (true≢false (sym h))
 
 -- names of a flow's own
 pub used_decl : (g : GraphValue) (name : List ℕ) → is_used g name ≡ false → (d : Decl) → Contains g.decls d → name ≢ decl_name d
@@ -465,7 +464,7 @@ beyond_line g l h =
     let is : length (edges (with_line g l)) ≡ length (edges g ++ line_edges g.lines l) = ap length (edges_push g l) in
     let sum : length (edges g ++ line_edges g.lines l) ≡ length (edges g) + length (line_edges g.lines l) = length-append (edges g) (line_edges g.lines l) in omega arith) in
     or_nine (nat_lt (limits g.format).text (length (head g))) (nat_lt (limits g.format).text (length (head (with_line g l)))) (has_many_spaces g) (has_many_spaces (with_line g l))
-    (nat_lt (limits g.format).insts (length (filter is_inst g.decls))) (nat_lt (limits g.format).columns (length (columns g))) (nat_lt (limits g.format).cells (cell_count g)) (nat_lt (limits g.format).locks (length (locks g))) (nat_lt (limits g.format).barriers (length (barriers g)))
+    (nat_lt (limits g.format).insts (length (filter is_inst g.decls))) (nat_lt (limits g.format).columns (length (columns g) + length (data_columns g))) (nat_lt (limits g.format).cells (cell_count g)) (nat_lt (limits g.format).locks (length (locks g))) (nat_lt (limits g.format).barriers (length (barriers g)))
     (nat_lt (limits g.format).lines (length g.lines)) (nat_lt (limits g.format).lines (length (g.lines ++ l ∷ []))) (nat_lt (limits g.format).edges (length (edges g))) (nat_lt (limits g.format).edges (length (edges (with_line g l))))
     (lt_more (limits g.format).text (length (head g)) (length (head (with_line g l))) text) (spaces_more g (with_line g l) refl text)
     (lt_more (limits g.format).lines (length g.lines) (length (g.lines ++ l ∷ [])) count) (lt_more (limits g.format).edges (length (edges g)) (length (edges (with_line g l))) more) h
@@ -478,7 +477,7 @@ beyond_more g (l ∷ ls) h = subst (λ xs. is_beyond (lined g.format g.decls xs)
 pub past_beyond : (f : GraphValue) (commute : Bool) (m : Made) → m.format ≡ f.format → IsPast m → is_beyond (graph_of f commute m) ≡ true
 past_beyond f commute m same h =
     let g : GraphValue = graph_of f commute m in
-    or_eighth (nat_lt (limits g.format).text (length (head g))) (has_many_spaces g) (nat_lt (limits g.format).insts (length (filter is_inst g.decls))) (nat_lt (limits g.format).columns (length (columns g))) (nat_lt (limits g.format).cells (cell_count g))
+    or_eighth (nat_lt (limits g.format).text (length (head g))) (has_many_spaces g) (nat_lt (limits g.format).insts (length (filter is_inst g.decls))) (nat_lt (limits g.format).columns (length (columns g) + length (data_columns g))) (nat_lt (limits g.format).cells (cell_count g))
     (nat_lt (limits g.format).locks (length (locks g))) (nat_lt (limits g.format).barriers (length (barriers g))) (nat_lt (limits g.format).lines (length m.lines)) (nat_lt (limits g.format).edges (length (edges g)))
     (lt-ltb (limits f.format).lines (length m.lines) (subst (λ fm. (limits fm).lines < length m.lines) same h))
 

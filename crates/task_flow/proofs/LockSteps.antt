@@ -12,14 +12,14 @@ use Rattle.graph_terms.specs.declared.format.Format.{Format}
 use Rattle.graph_terms.specs.Limits.{limits}
 use Rattle.graph_terms.specs.declared.why.Why.{Why}
 use Rattle.graph_terms.specs.declared.why.Why.TheVariants as why
-use Rattle.graph_terms.specs.Graph.{GraphValue, lock_of, barrier_of, columns, locks, barriers, named_spaces}
+use Rattle.graph_terms.specs.Graph.{GraphValue, lock_of, barrier_of, columns, data_columns, locks, barriers, named_spaces}
 use Rattle.graph_terms.specs.Fits.{is_used, is_inst, cell_count, with_decl, has_many_spaces, is_beyond, decl_fault}
 use Rattle.graph_terms.specs.Spelling.{head, spelled, decl_words}
 use Rattle.graph_terms.proofs.Public.{head_with_decl}
 use Rattle.task_flow.specs.Fitting.{lined}
 use Rattle.task_flow.specs.Construction.{new_name, locks_from}
 use Rattle.task_flow.proofs.Fitting.{or_more, lt_more, spaces_more}
-use Rattle.task_flow.proofs.Reservations.{locks_length, lock_at, spaces_stay, columns_stay}
+use Rattle.task_flow.proofs.Reservations.{locks_length, lock_at, spaces_stay, columns_stay, data_stay}
 use Rattle.basics.proofs.ListParts.{take_more, take_whole}
 
 -- a reservation with a name that is free fits, unless the graph passes a limit with it
@@ -36,6 +36,7 @@ beyond_lock fm ds name h =
     let w : GraphValue = lined fm (ds ++ Lock name ∷ []) [] in
     let spaces : named_spaces w ≡ named_spaces g = spaces_stay ds (Lock name ∷ []) ((name, refl), tt) in
     let cols : columns w ≡ columns g = columns_stay ds (Lock name ∷ []) ((name, refl), tt) in
+    let hosted : data_columns w ≡ data_columns g = data_stay ds (Lock name ∷ []) ((name, refl), tt) in
     let insts : filter is_inst (ds ++ Lock name ∷ []) ≡ filter is_inst ds = filter-append is_inst ds (Lock name ∷ []) ∙ append-nil (filter is_inst ds) in
     let walls : barriers w ≡ barriers g = filter_map-append barrier_of ds (Lock name ∷ []) ∙ append-nil (filter_map barrier_of ds) in
     let cells : cell_count w ≡ cell_count g = ap (λ ss. sum_by (λ (c : ColumnInfo). space_size (option_map_or (λ (x : List ℕ × List (ℕ × ℕ)). x.1) (slice_get ss c.space) [])) (columns w)) spaces ∙ ap (λ cs. sum_by (λ (c : ColumnInfo). space_size (option_map_or (λ (x : List ℕ × List (ℕ × ℕ)). x.1) (slice_get (named_spaces g) c.space) [])) cs) cols in
@@ -48,7 +49,7 @@ beyond_lock fm ds name h =
     or_more (nat_lt (limits fm).text (length (head g))) (nat_lt (limits fm).text (length (head w))) _ _ (lt_more (limits fm).text (length (head g)) (length (head w)) text)
     (or_more (has_many_spaces g) (has_many_spaces w) _ _ (spaces_more g w spaces text)
     (or_more (nat_lt (limits fm).insts (length (filter is_inst ds))) (nat_lt (limits fm).insts (length (filter is_inst (ds ++ Lock name ∷ [])))) _ _ (same_more _ _ (ap (λ xs. nat_lt (limits fm).insts (length xs)) (sym insts)))
-    (or_more (nat_lt (limits fm).columns (length (columns g))) (nat_lt (limits fm).columns (length (columns w))) _ _ (same_more _ _ (ap (λ xs. nat_lt (limits fm).columns (length xs)) (sym cols)))
+    (or_more (nat_lt (limits fm).columns (length (columns g) + length (data_columns g))) (nat_lt (limits fm).columns (length (columns w) + length (data_columns w))) _ _ (same_more _ _ (ap (λ k. nat_lt (limits fm).columns k) (ap (λ xs. length xs + length (data_columns g)) (sym cols) ∙ ap (λ xs. length (columns w) + length xs) (sym hosted))))
     (or_more (nat_lt (limits fm).cells (cell_count g)) (nat_lt (limits fm).cells (cell_count w)) _ _ (same_more _ _ (ap (λ k. nat_lt (limits fm).cells k) (sym cells)))
     (or_more (nat_lt (limits fm).locks (length (locks g))) (nat_lt (limits fm).locks (length (locks w))) _ _ (lt_more (limits fm).locks (length (locks g)) (length (locks w)) count)
     (or_more (nat_lt (limits fm).barriers (length (barriers g))) (nat_lt (limits fm).barriers (length (barriers w))) _ _ (same_more _ _ (ap (λ xs. nat_lt (limits fm).barriers (length xs)) (sym walls)))

@@ -6,7 +6,7 @@ use Rattle.graph_terms.specs.declared.decl.Decl.{Decl}
 use Rattle.graph_terms.specs.declared.format.Format.{Format}
 use Rattle.graph_terms.specs.declared.why.Why.TheVariants as why
 use Rattle.graph_terms.specs.Limits.{limits}
-use Rattle.graph_terms.specs.Graph.{GraphValue, lock_of, columns, locks, barriers}
+use Rattle.graph_terms.specs.Graph.{GraphValue, lock_of, columns, data_columns, locks, barriers}
 use Rattle.graph_terms.specs.Edges.{edges}
 use Rattle.graph_terms.specs.Spelling.{head}
 use Rattle.graph_terms.specs.Fits.{is_inst, cell_count, is_large, has_many_spaces, is_beyond, with_decl, decl_tests, DeclsFit, IsGraph}
@@ -24,7 +24,7 @@ sixth t s i c e k r h =
     (or_parts k r g.1).0
 
 locks_within : (g : GraphValue) → is_beyond g ≡ false → length (locks g) ≤ (limits g.format).locks
-locks_within g h = ltb-false (limits g.format).locks (length (locks g)) (sixth (nat_lt (limits g.format).text (length (head g))) (has_many_spaces g) (nat_lt (limits g.format).insts (length (filter is_inst g.decls))) (nat_lt (limits g.format).columns (length (columns g)))
+locks_within g h = ltb-false (limits g.format).locks (length (locks g)) (sixth (nat_lt (limits g.format).text (length (head g))) (has_many_spaces g) (nat_lt (limits g.format).insts (length (filter is_inst g.decls))) (nat_lt (limits g.format).columns (length (columns g) + length (data_columns g)))
     (nat_lt (limits g.format).cells (cell_count g)) (nat_lt (limits g.format).locks (length (locks g)))
     (nat_lt (limits g.format).barriers (length (barriers g)) || (nat_lt (limits g.format).lines (length g.lines) || nat_lt (limits g.format).edges (length (edges g)))) h)
 
@@ -32,7 +32,7 @@ locks_fit : (fm : Format) (before ds : List Decl) → DeclsFit fm before ds → 
 locks_fit fm before [] f h = subst (λ xs. length (filter_map lock_of xs) ≤ (limits fm).locks) (sym (append-nil before)) h
 locks_fit fm before (d ∷ ds) f h =
     let g : GraphValue = lined fm before [] in
-    let none : (is_large fm d || is_beyond (with_decl g d)) ≡ false = none_first (decl_tests g d) f.1 (is_large fm d || is_beyond (with_decl g d), why.Limit) (3, omega arith, refl) in
+    let none : (is_large fm d || is_beyond (with_decl g d)) ≡ false = none_first (decl_tests g d) f.1 (is_large fm d || is_beyond (with_decl g d), why.Limit) (4, omega arith, refl) in
     let within : is_beyond (with_decl g d) ≡ false = (or_parts (is_large fm d) (is_beyond (with_decl g d)) none).1 in
     subst (λ xs. length (filter_map lock_of xs) ≤ (limits fm).locks) (append_assoc before (d ∷ []) ds) (locks_fit fm (before ++ d ∷ []) ds f.2 (locks_within (with_decl g d) within))
 

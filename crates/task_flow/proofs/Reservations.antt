@@ -10,7 +10,7 @@ use Rattle.basics.proofs.ListFacts.{contains_cases, contains_none}
 use Rattle.graph_terms.specs.declared.decl.Decl.{Decl}
 use Rattle.graph_terms.specs.declared.decl.Decl.TheVariants.{Lock}
 use Rattle.graph_terms.specs.Limits.{limits}
-use Rattle.graph_terms.specs.Graph.{GraphValue, space_of, columns_of, lock_of, locks}
+use Rattle.graph_terms.specs.Graph.{GraphValue, space_of, columns_of, data_columns_of, lock_of, locks}
 use Rattle.flow_order.specs.Written.{IsLock}
 use Rattle.flow_order.specs.SourceParts.{has, with_event}
 use Rattle.task_flow.specs.Construction.{is_contended, summed_column, needed, place_of, lock_for, new_name, first_number, locks_from, reservations, wants_many}
@@ -73,6 +73,13 @@ lock_columns (d ∷ ls) a = ap (λ z. flat_map columns_of (z ∷ ls)) (a.0).1 �
 
 pub spaces_stay : (ds ls : List Decl) → AllByRecursion IsLock ls → filter_map space_of (ds ++ ls) ≡ filter_map space_of ds
 spaces_stay ds ls a = filter_map-append space_of ds ls ∙ (ap (λ xs. filter_map space_of ds ++ xs) (lock_spaces ls a) ∙ append-nil (filter_map space_of ds))
+
+lock_data : (ls : List Decl) → AllByRecursion IsLock ls → flat_map data_columns_of ls ≡ []
+lock_data [] a = refl
+lock_data (d ∷ ls) a = ap (λ z. flat_map data_columns_of (z ∷ ls)) (a.0).1 ∙ lock_data ls a.1
+
+pub data_stay : (ds ls : List Decl) → AllByRecursion IsLock ls → flat_map data_columns_of (ds ++ ls) ≡ flat_map data_columns_of ds
+data_stay ds ls a = flat_map-append data_columns_of ds ls ∙ (ap (λ xs. flat_map data_columns_of ds ++ xs) (lock_data ls a) ∙ append-nil (flat_map data_columns_of ds))
 
 pub columns_stay : (ds ls : List Decl) → AllByRecursion IsLock ls → flat_map columns_of (ds ++ ls) ≡ flat_map columns_of ds
 columns_stay ds ls a = flat_map-append columns_of ds ls ∙ (ap (λ xs. flat_map columns_of ds ++ xs) (lock_columns ls a) ∙ append-nil (flat_map columns_of ds))

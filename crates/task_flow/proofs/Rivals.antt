@@ -13,7 +13,7 @@ use Rattle.graph_terms.specs.declared.verb.Access.{Access}
 use Rattle.graph_terms.specs.declared.verb.Mode.{Mode}
 use Rattle.graph_terms.specs.declared.verb.Mode.TheVariants.{Sum}
 use Rattle.graph_terms.specs.declared.verb.Verb.{Verb}
-use Rattle.graph_terms.specs.declared.verb.Verb.TheVariants.{User, Trigger, Cancel, Merge, MergeIgnore, Phase, Arrive, Acquire, Release, Fill, Copy, Reduce, Task}
+use Rattle.graph_terms.specs.declared.verb.Verb.TheVariants.{Arrive, Acquire, Reduce, Task}
 use Rattle.graph_terms.specs.Graph.{GraphValue, space_at, verb_at}
 use Rattle.graph_terms.specs.Access.{verb_accesses, in_format, accesses}
 use Rattle.graph_terms.proofs.Public.{arrive_accesses}
@@ -49,21 +49,7 @@ one_sum (x ∷ y ∷ ys) a l c s =
     ]
 
 verb_sums : (fm : Format) (v : Verb) → sums_last (map (in_format fm) (verb_accesses v)) ≡ true
-verb_sums fm User = refl
-verb_sums fm (Trigger u) = refl
-verb_sums fm (Cancel u) = refl
-verb_sums fm (Merge es) = refl
-verb_sums fm (MergeIgnore es) = refl
-verb_sums fm (Phase u) = refl
 verb_sums fm (Arrive p v w) = ap (λ xs. sums_last (map (in_format fm) xs)) (arrive_accesses p v w)
-verb_sums fm (Acquire l true) = refl
-verb_sums fm (Acquire l false) = refl
-verb_sums fm (Release q) = refl
-verb_sums fm (Fill t s v) = refl
-verb_sums fm (Copy x y s) = refl
-verb_sums fm (Reduce op.Sum x y s) = refl
-verb_sums fm (Reduce op.Min x y s) = refl
-verb_sums fm (Reduce op.Max x y s) = refl
 verb_sums fm (Task (kernel.Iota x s v)) = refl
 verb_sums fm (Task (kernel.Axpy x y s v)) = refl
 verb_sums fm (Task (kernel.Stencil x y r s)) = refl
@@ -72,6 +58,12 @@ verb_sums fm (Task (kernel.Hist x y s t)) = refl
 verb_sums fm (Task (kernel.Dot x y z s t)) = refl
 verb_sums fm (Task (kernel.Expect x s low high)) = refl
 verb_sums fm (Task (kernel.Gather x y z s t)) = refl
+verb_sums fm (Acquire l true) = refl
+verb_sums fm (Acquire l false) = refl
+verb_sums fm (Reduce op.Sum x y s) = refl
+verb_sums fm (Reduce op.Min x y s) = refl
+verb_sums fm (Reduce op.Max x y s) = refl
+verb_sums fm v = refl
 
 sum_by : (fm : Format) (o : Option Verb) (a : Access) → Contains (map (in_format fm) (option_map_or verb_accesses o [])) a → is_sum a ≡ true → find is_sum (map (in_format fm) (option_map_or verb_accesses o [])) ≡ Some a
 sum_by fm None a c s = absurd (contains_none a c)

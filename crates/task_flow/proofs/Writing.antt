@@ -11,7 +11,7 @@ use Rattle.graph_terms.specs.declared.verb.EdgeKind.{EdgeKind}
 use Rattle.graph_terms.specs.declared.verb.EdgeKind.TheVariants.{Passes, Ignores}
 use Rattle.graph_terms.specs.declared.verb.Line.{Line}
 use Rattle.graph_terms.specs.declared.verb.Verb.{Verb}
-use Rattle.graph_terms.specs.declared.verb.Verb.TheVariants.{User, Trigger, Cancel, Merge, MergeIgnore, Phase, Arrive, Acquire, Release, Fill, Copy, Reduce, Task}
+use Rattle.graph_terms.specs.declared.verb.Verb.TheVariants.{Trigger, Cancel, Merge, MergeIgnore, Phase, Arrive, Release, Fill, Copy, Reduce, Task}
 use Rattle.graph_terms.specs.Graph.{GraphValue, locks, line_passes, is_acquire_of, is_release_of}
 use Rattle.graph_terms.specs.Edges.{edge, on_edges, verb_edges, line_edges, edges_after, edges}
 use Rattle.graph_terms.specs.Fits.{IsGraph}
@@ -58,19 +58,11 @@ Follows l x = Names l x ⊎ ((es : List ℕ) × (l.verb ≡ MergeIgnore es) × C
 
 -- a line of a flow gives no edge by its verb
 own_gives : (b : List Line) (k : ℕ) (v : Verb) → uses_columns v ≡ true → verb_edges b k v ≡ []
-own_gives b k User h = absurd (true≢false (sym h))
-own_gives b k (Trigger u) h = absurd (true≢false (sym h))
-own_gives b k (Cancel u) h = absurd (true≢false (sym h))
-own_gives b k (Merge es) h = absurd (true≢false (sym h))
-own_gives b k (MergeIgnore es) h = absurd (true≢false (sym h))
-own_gives b k (Phase u) h = absurd (true≢false (sym h))
-own_gives b k (Arrive p v w) h = absurd (true≢false (sym h))
-own_gives b k (Acquire l s) h = absurd (true≢false (sym h))
-own_gives b k (Release q) h = absurd (true≢false (sym h))
 own_gives b k (Fill t s v) h = refl
 own_gives b k (Copy x y s) h = refl
 own_gives b k (Reduce o x y s) h = refl
 own_gives b k (Task kernel) h = refl
+own_gives b k v h = absurd (true≢false (sym h))
 
 -- the edges of events that are named
 merge_gives : (kind : EdgeKind) (es : List ℕ) (k : ℕ) (e : Edge) → Contains (map (λ x. edge x k kind) es) e → Contains es e.from × (e.to ≡ k)
@@ -80,17 +72,11 @@ merge_gives kind es k e c = let x = map_contains (λ x. edge x k kind) es e c in
 alone_gives : (b : List Line) (k : ℕ) (l : Line) (e : Edge) → orders_alone l.verb ≡ true → (v : Verb) → l.verb ≡ v → Contains (verb_edges b k v) e → Follows l e.from × (e.to ≡ k)
 alone_gives b k l e h (Merge es) is c = let r = merge_gives Passes es k e c in (inl (inr (es, is, r.0)), r.1)
 alone_gives b k l e h (MergeIgnore es) is c = let r = merge_gives Ignores es k e c in (inr (es, is, r.0), r.1)
-alone_gives b k l e h (Acquire q s) is c = absurd (contains_none e c)
-alone_gives b k l e h (Release q) is c = absurd (contains_none e c)
-alone_gives b k l e h (Fill t s v) is c = absurd (contains_none e c)
-alone_gives b k l e h (Copy x y s) is c = absurd (contains_none e c)
-alone_gives b k l e h (Reduce o x y s) is c = absurd (contains_none e c)
-alone_gives b k l e h (Task kernel) is c = absurd (contains_none e c)
-alone_gives b k l e h User is c = absurd (contains_none e c)
 alone_gives b k l e h (Trigger u) is c = absurd (true≢false (sym h ∙ ap orders_alone is))
 alone_gives b k l e h (Cancel u) is c = absurd (true≢false (sym h ∙ ap orders_alone is))
 alone_gives b k l e h (Phase u) is c = absurd (true≢false (sym h ∙ ap orders_alone is))
 alone_gives b k l e h (Arrive p v w) is c = absurd (true≢false (sym h ∙ ap orders_alone is))
+alone_gives b k l e h v is c = absurd (contains_none e c)
 
 -- the number of a release
 release_of : (q k : ℕ) → is_release_of q (Release k) ≡ true → k ≡ q
@@ -98,19 +84,11 @@ release_of q k h = eqb-true k q h
 
 -- it acquires nothing and releases nothing
 own_holds : (l : ℕ) (v : Verb) → uses_columns v ≡ true → (is_acquire_of l v ≡ false) × (is_release_of l v ≡ false)
-own_holds l User h = absurd (true≢false (sym h))
-own_holds l (Trigger u) h = absurd (true≢false (sym h))
-own_holds l (Cancel u) h = absurd (true≢false (sym h))
-own_holds l (Merge es) h = absurd (true≢false (sym h))
-own_holds l (MergeIgnore es) h = absurd (true≢false (sym h))
-own_holds l (Phase u) h = absurd (true≢false (sym h))
-own_holds l (Arrive p v w) h = absurd (true≢false (sym h))
-own_holds l (Acquire k s) h = absurd (true≢false (sym h))
-own_holds l (Release q) h = absurd (true≢false (sym h))
 own_holds l (Fill t s v) h = (refl, refl)
 own_holds l (Copy x y s) h = (refl, refl)
 own_holds l (Reduce o x y s) h = (refl, refl)
 own_holds l (Task kernel) h = (refl, refl)
+own_holds l v h = absurd (true≢false (sym h))
 
 -- the stages of a proof over a flow and what stands of its graph
 module _ (f : GraphValue) (commute : Bool) (flow : IsFlow f) (m : Made) (labels : List (List ℕ)) (st : Standing f commute (length f.lines) m labels) where

@@ -45,6 +45,15 @@ fn copy_of_decl(alloc: Global, decl: &Decl) -> Result<Decl, NoMemory>
             space: *space,
             fields: copy_of_names(alloc, fields)?,
         }),
+        Decl::Data {
+            name,
+            space,
+            fields,
+        } => Ok(Decl::Data {
+            name: *name,
+            space: *space,
+            fields: copy_of_names(alloc, fields)?,
+        }),
         Decl::Lock { name } => Ok(Decl::Lock { name: *name }),
         Decl::Barrier {
             name,

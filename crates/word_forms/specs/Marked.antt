@@ -32,7 +32,7 @@ noted_text slot before note = cond (length note == 0) [] (note_line slot (before
 
 -- what kind of word stands at number k of the form, from 0, and how it is spelled
 abbrev pub note_text : Format → Why → Form → List (List ℕ) → ℕ → List ℕ
-note_text format reason f ws k = noted_text (slot_at format f k) (length (take k ws)) (note_of format reason (slot_at format f k))
+note_text format reason f ws k = noted_text (slot_at format f ws k) (length (take k ws)) (note_of format reason (slot_at format f ws k))
 
 -- how names are spelled
 abbrev pub name_rule : Format → List ℕ
@@ -46,11 +46,12 @@ is_later format ws = not (list_all (is_name_in format) ws) && list_all (is_name_
 -- what stands between the names that a word of this kind has; no word has a space in it
 abbrev pub separator : Slot → ℕ
 separator slots.Column = 46
+separator slots.Data = 46
 separator slots.Fields = 44
 separator _ = 32
 
 abbrev pub later_text : Format → Form → List (List ℕ) → ℕ → List ℕ
-later_text format f ws k = cond (is_later format (pieces (separator (slot_at format f k)) (slice_index_or ws k []))) (codes "format 3 has such names\n") []
+later_text format f ws k = cond (is_later format (pieces (separator (slot_at format f ws k)) (slice_index_or ws k []))) (codes "format 3 has such names\n") []
 
 abbrev pub is_event : Slot → Bool
 is_event slots.Event = true
@@ -61,7 +62,7 @@ abbrev pub events_text : Format → Form → List (List ℕ) → List (List ℕ)
 events_text format f ws events = cond (takes_on f && not (takes_several format f)) (merge_lines f ws events) (codes "one space stands between two events\n")
 
 abbrev pub comma_text : Format → Form → List (List ℕ) → ℕ → List ℕ
-comma_text format f ws k = cond (is_event (slot_at format f k) && list_all (is_name_in format) (pieces 44 (slice_index_or ws k []))) (events_text format f (take k ws) (pieces 44 (slice_index_or ws k []))) []
+comma_text format f ws k = cond (is_event (slot_at format f ws k) && list_all (is_name_in format) (pieces 44 (slice_index_or ws k []))) (events_text format f (take k ws) (pieces 44 (slice_index_or ws k []))) []
 
 abbrev pub misnamed_text : Format → Form → List (List ℕ) → ℕ → List ℕ
 misnamed_text format f ws k = note_text format why.Name f ws k ++ (name_rule format ++ (later_text format f ws k ++ comma_text format f ws k))

@@ -1,22 +1,24 @@
 //! What is told of a word that is refused.
 
-ghost use Rattle.std.specs.Prelude.{◌≡◌, ◌<◌, ◌^◌, ◌++◌, IfOk, OnOk};
+ghost use Rattle.std.specs.Prelude.{◌≡◌, ◌<◌, ◌^◌, ◌++◌, [], drop, take, IfOk, OnOk};
 ghost use Rattle.basics.specs.Words.{contents};
-ghost use Rattle.std.specs.List.{list_all};
+ghost use Rattle.std.specs.List.{list_all, slice_index_or};
 ghost use Rattle.graph_terms.specs.Name.{is_name_in};
 ghost use Rattle.graph_words.specs.Words.{pieces};
-ghost use Rattle.word_forms.specs.Slots.{has_events, slot_at};
+ghost use Rattle.word_forms.specs.Slots.{has_events, call_slot, form_slot, is_behind_word, slot_at};
+ghost use Rattle.line_forms.specs.Calls.{expected_behind};
 ghost use Rattle.line_forms.specs.Forms.{form_words};
 ghost use Rattle.word_forms.specs.Marked.{slot_text, note_line, noted_text, note_text, name_rule, is_later, separator, later_text, is_event, events_text, comma_text, misnamed_text, merge_on_text, mark_text, may_go_on, is_marked, form_mark, form_marks, marked_text, word_advice};
 
 use crate::order::put_intervals;
-use crate::slot::{Slot, note_of, slot_of, slot_word};
+use crate::slot::{Slot, call_slot, note_of, slot_of, slot_word};
 use graph_terms::format::Format;
 use graph_terms::why::Why;
 use graph_words::names::names_of;
-use graph_words::words::{split, word};
+use graph_words::words::{behind, split, word};
 use index_spaces::NoMemory;
 use line_forms::blanks::{Blank, blank_text, ends_with_return, has_tab};
+use line_forms::calls::{Expected, expected_behind};
 use line_forms::follow::{followed, is_told};
 use line_forms::hint::{front, put_merge_lines};
 use line_forms::putting::{put, put_decimal};
@@ -154,9 +156,46 @@ fn put_mark(
     }
 }
 
-/// What kind of word stands at number `k` of the form.
-fn slot_at(alloc: Global, format: Format, form: Form, k: usize) -> Result<Slot, NoMemory>
-    ensures { IfOk result (λ s. s ≡ slot_at format form k) }
+/// What kind of word stands at number `k` of a line of the form.
+fn slot_at(
+    alloc: Global,
+    format: Format,
+    form: Form,
+    words: &[&[u8]],
+    k: usize,
+) -> Result<Slot, NoMemory>
+    ensures { IfOk result (λ s. s ≡ slot_at format form (contents words.now) k) }
+{
+    if is_behind_word(form, k) {
+        return Ok(slot_behind(words, k));
+    }
+    form_slot(alloc, format, form, k)
+}
+
+/// Whether word `k` of a line of the form stands behind the word of a call.
+fn is_behind_word(form: Form, k: usize) -> bool
+    ensures { result ≡ is_behind_word form k }
+{
+    match form {
+        Form::Call => k > 3,
+        _ => false,
+    }
+}
+
+/// The same behind the word of a call, by the words of the line.
+fn slot_behind(words: &[&[u8]], k: usize) -> Slot
+    ensures { result ≡ call_slot (expected_behind (Expected.Value 0) (drop 4 (take k (contents words.now)))) (slice_index_or (contents words.now) k []) }
+{
+    let before = front(words, k);
+    if before.len() < 4 {
+        return call_slot(Some(Expected::Value(0)), word(words, k));
+    }
+    call_slot(expected_behind(behind(before, 4)), word(words, k))
+}
+
+/// The same by the words of the form.
+fn form_slot(alloc: Global, format: Format, form: Form, k: usize) -> Result<Slot, NoMemory>
+    ensures { IfOk result (λ s. s ≡ form_slot format form k) }
 {
     let items = split(alloc, form.text(), b' ')?;
     if has_events(format, form, items.len(), k) {
@@ -185,7 +224,7 @@ fn put_note(
 ) -> Result<(), NoMemory>
     ensures { OnOk result (out.new.items ≡ out.old.items ++ note_text format why form (contents words.now) k) }
 {
-    let slot = slot_at(alloc, format, form, k)?;
+    let slot = slot_at(alloc, format, form, words, k)?;
     put_noted(out, slot, front(words, k).len(), note_of(format, why, slot))
 }
 
@@ -265,7 +304,7 @@ fn put_later(
 ) -> Result<(), NoMemory>
     ensures { OnOk result (out.new.items ≡ out.old.items ++ later_text format form (contents words.now) k) }
 {
-    let slot = slot_at(alloc, format, form, k)?;
+    let slot = slot_at(alloc, format, form, words, k)?;
     let later = is_later(alloc, format, word(words, k), separator(slot))?;
     if later {
         return put(out, b"format 3 has such names\n");
@@ -288,7 +327,7 @@ fn separator(slot: Slot) -> u8
     ensures { result ≡ separator slot }
 {
     match slot {
-        Slot::Column => b'.',
+        Slot::Column | Slot::Data => b'.',
         Slot::Fields => b',',
         _ => b' ',
     }
@@ -305,7 +344,7 @@ fn put_commas(
 ) -> Result<(), NoMemory>
     ensures { OnOk result (out.new.items ≡ out.old.items ++ comma_text format form (contents words.now) k) }
 {
-    let slot = slot_at(alloc, format, form, k)?;
+    let slot = slot_at(alloc, format, form, words, k)?;
     let events = split(alloc, word(words, k), b',')?;
     let named = are_names(alloc, format, events.as_slice())?;
     if is_event(slot) && named {

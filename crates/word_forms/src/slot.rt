@@ -2,6 +2,8 @@
 
 use graph_terms::format::Format;
 use graph_terms::why::Why;
+use graph_words::calls::begins_with_digit;
+use line_forms::calls::Expected;
 
 /// What kind of word stands in a place of a form, as docs/LANGUAGE.md names it.
 #[derive(Clone, Copy)]
@@ -14,6 +16,10 @@ pub enum Slot {
     Value,
     Weight,
     Column,
+    /// A column of data.
+    Data,
+    /// The word by which the host knows the body of a call.
+    Word,
     User,
     Phase,
     Acquire,
@@ -25,7 +31,20 @@ pub enum Slot {
 }
 
 ghost use Rattle.std.specs.Prelude.{◌≡◌};
-ghost use Rattle.word_forms.specs.Slots.{name_slot, slot_of, slot_word, name_note, count_note, weight_note, number_note, kind_note, note_of};
+ghost use Rattle.word_forms.specs.Slots.{call_slot, name_slot, slot_of, slot_word, name_note, count_note, weight_note, number_note, kind_note, note_of};
+
+/// What kind of word a word of a call stands for, by what may stand there behind others.
+pub(crate) fn call_slot(expected: Option<Expected>, word: &[u8]) -> Slot
+    ensures { result ≡ call_slot expected word.now }
+{
+    match expected {
+        Some(Expected::Value(_)) if begins_with_digit(word) => Slot::Value,
+        Some(Expected::Column) => Slot::Data,
+        Some(Expected::Space) => Slot::Space,
+        Some(Expected::Event) => Slot::Event,
+        _ => Slot::Fixed,
+    }
+}
 
 /// What kind of word a word of a form stands for.
 pub(crate) fn slot_of(item: &[u8]) -> Slot
@@ -62,6 +81,9 @@ fn name_slot(item: &[u8]) -> Slot
     if item == b"SPACE".as_slice() {
         return Slot::Space;
     }
+    if item == b"WORD".as_slice() {
+        return Slot::Word;
+    }
     if item == b"USER".as_slice() {
         return Slot::User;
     }
@@ -95,7 +117,8 @@ pub(crate) fn slot_word(slot: Slot) -> &'static [u8]
         Slot::Count => b"COUNT",
         Slot::Value => b"VALUE",
         Slot::Weight => b"WEIGHT",
-        Slot::Column => b"COLUMN",
+        Slot::Column | Slot::Data => b"COLUMN",
+        Slot::Word => b"WORD",
         Slot::User => b"USER",
         Slot::Phase => b"PHASE",
         Slot::Acquire => b"ACQUIRE",
@@ -126,6 +149,7 @@ fn name_note(slot: Slot) -> &'static [u8]
         Slot::Name => b"the name that the line gives",
         Slot::Fields => b"one NAME or more, with , between two and no space",
         Slot::Column => b"INSTANCE.FIELD, two NAMEs with one . between them",
+        Slot::Data => b"DATA.FIELD, two NAMEs with one . between them",
         _ => b"a NAME",
     }
 }
@@ -178,6 +202,7 @@ fn kind_note(slot: Slot) -> &'static [u8]
     match slot {
         Slot::Space => b"the NAME of a space: space NAME INTERVALS",
         Slot::Column => b"INSTANCE.FIELD, of an instance: inst NAME SPACE FIELDS",
+        Slot::Data => b"DATA.FIELD, of data: data NAME SPACE FIELDS",
         Slot::User => b"the NAME of a user event: NAME = user",
         Slot::Phase => b"the NAME of a phase: NAME = phase BARRIER",
         Slot::Acquire => b"the NAME of an acquire: NAME = acquire LOCK",

@@ -14,11 +14,11 @@ use Rattle.graph_terms.specs.declared.verb.Mode.TheVariants.{Read, Write}
 use Rattle.graph_terms.specs.declared.verb.Verb.TheVariants.{Fill, Copy}
 use Rattle.graph_terms.specs.Graph.{GraphValue, space_at}
 use Rattle.graph_terms.specs.Edges.{edges}
-use Rattle.graph_terms.specs.Access.{access, accesses}
+use Rattle.graph_terms.specs.Access.{access, all_accesses}
 use Rattle.graph_meaning.specs.Rules.{Accepted}
 use Rattle.graph_meaning.specs.Effect.{Cells, zero_cells, Set, CellChange, cells_after, Effect, Effects, changes_at, wrapped}
 use Rattle.graph_meaning.specs.Evaluation.{order_with, changes_with, outcome_with}
-use Rattle.graph_meaning.specs.Laws.{IsWithinAccess, IsReadyAmongWith, AgreeWhereUsed, cells_put_with, step_on_with, KeepsToAccesses, DoesAsEvaluatedWith}
+use Rattle.graph_meaning.specs.Laws.{IsWithinAccess, IsReadyAmongWith, AgreeWhereAccessed, cells_put_with, step_on_with, KeepsToAccesses, DoesAsEvaluatedWith}
 use Rattle.basics.proofs.ListFacts.{contains_none, passes_each}
 use Rattle.graph_meaning.proofs.Changes.{at_write, changes_agree, listed_point}
 use Rattle.graph_meaning.proofs.RulesTable.{implies, implied, accepted_by_computing}
@@ -60,18 +60,18 @@ bodies (suc (suc (suc zero))) cells = guard cells
 bodies (suc (suc (suc (suc zero)))) cells = overwrite 2 7
 bodies i cells = effect_of Fine []
 
-bodies_within : (i : ℕ) (cells : Cells) (x : CellChange) → Contains (bodies i cells).changes x → IsWithinAccess (space_at five_lines) (accesses five_lines i) x
-bodies_within zero cells x c = at_write (space_at five_lines) (accesses five_lines 0) (λ p. Set (70 + p)) 3 0 x (0, omega arith, refl) c
-bodies_within (suc zero) cells x c = at_write (space_at five_lines) (accesses five_lines 1) (λ p. Set (20 + p)) 0 0 x (0, omega arith, refl) c
-bodies_within (suc (suc zero)) cells x c = at_write (space_at five_lines) (accesses five_lines 2) (λ p. Set (wrapped (cells 1 p + cells 0 p))) 1 0 x (1, omega arith, refl) c
-bodies_within (suc (suc (suc zero))) cells x c = at_write (space_at five_lines) (accesses five_lines 3) (λ p. Set 99) 2 0 x (1, omega arith, refl) c
-bodies_within (suc (suc (suc (suc zero)))) cells x c = at_write (space_at five_lines) (accesses five_lines 4) (λ p. Set (7 + p)) 2 0 x (0, omega arith, refl) c
+bodies_within : (i : ℕ) (cells : Cells) (x : CellChange) → Contains (bodies i cells).changes x → IsWithinAccess (space_at five_lines) (all_accesses five_lines i) x
+bodies_within zero cells x c = at_write (space_at five_lines) (all_accesses five_lines 0) (λ p. Set (70 + p)) 3 0 x (0, omega arith, refl) c
+bodies_within (suc zero) cells x c = at_write (space_at five_lines) (all_accesses five_lines 1) (λ p. Set (20 + p)) 0 0 x (0, omega arith, refl) c
+bodies_within (suc (suc zero)) cells x c = at_write (space_at five_lines) (all_accesses five_lines 2) (λ p. Set (wrapped (cells 1 p + cells 0 p))) 1 0 x (1, omega arith, refl) c
+bodies_within (suc (suc (suc zero))) cells x c = at_write (space_at five_lines) (all_accesses five_lines 3) (λ p. Set 99) 2 0 x (1, omega arith, refl) c
+bodies_within (suc (suc (suc (suc zero)))) cells x c = at_write (space_at five_lines) (all_accesses five_lines 4) (λ p. Set (7 + p)) 2 0 x (0, omega arith, refl) c
 bodies_within (suc (suc (suc (suc (suc i))))) cells x c = absurd (contains_none x c)
 
 sum_same : (a b c d : ℕ) → a ≡ b → c ≡ d → Set (wrapped (a + c)) ≡ Set (wrapped (b + d))
 sum_same a b c d p q = cc
 
-bodies_agree : (i : ℕ) (cells others : Cells) → AgreeWhereUsed five_lines i cells others → bodies i cells ≡ bodies i others
+bodies_agree : (i : ℕ) (cells others : Cells) → AgreeWhereAccessed five_lines i cells others → bodies i cells ≡ bodies i others
 bodies_agree zero cells others h = refl
 bodies_agree (suc zero) cells others h = refl
 bodies_agree (suc (suc zero)) cells others h = ap (effect_of Fine) (changes_agree _ _ 1 two_points (λ p k.
@@ -122,7 +122,7 @@ ready_among does = record {
 }
 
 -- so it does then what it does in the evaluation
-accumulate-early : (cells : Cells) → AgreeWhereUsed five_lines 2 cells (cells_put_with bodies first five_lines (λ c k. one_ended k)) → DoesAsEvaluatedWith bodies first five_lines 2 cells
+accumulate-early : (cells : Cells) → AgreeWhereAccessed five_lines 2 cells (cells_put_with bodies first five_lines (λ c k. one_ended k)) → DoesAsEvaluatedWith bodies first five_lines 2 cells
 accumulate-early = (order_is_irrelevant_with bodies first five_lines 2 one_ended (λ c k. one_ended k) five_lines-accepted bodies-keep refl (ready_among bodies)).0
 
 -- The premise is needed. Line 2 copies w, which is none of its accesses: its changes then rest on whether line 0 has ended, and such effects do not keep to the accesses.
@@ -145,8 +145,8 @@ unlisted_read-early = refl
 abbrev one_in_w : Cells
 one_in_w c p = cond (c == 3) 1 0
 
-unused_w : AgreeWhereUsed five_lines 2 zero_cells one_in_w
-unused_w a listed ne p h = sym (ap (λ b. cond b 1 0) (not-true (a.column == 3) (passes_each (λ (a : Access). not (a.column == 3)) (accesses five_lines 2) refl a listed)))
+unused_w : AgreeWhereAccessed five_lines 2 zero_cells one_in_w
+unused_w a listed ne p h = sym (ap (λ b. cond b 1 0) (not-true (a.column == 3) (passes_each (λ (a : Access). not (a.column == 3)) (all_accesses five_lines 2) refl a listed)))
 
 zero_or_one : (a b : ℕ) → a ≡ 0 → b ≡ 1 → a ≡ b → ⊥
 zero_or_one a b p q e = omega arith
@@ -161,4 +161,4 @@ with_unlisted_write i cells = cond (i == 0) (overwrite 0 70) (bodies i cells)
 with_unlisted_write-refused : KeepsToAccesses five_lines with_unlisted_write → ⊥
 with_unlisted_write-refused keeps =
     let w = keeps.within 0 zero_cells (record { column = 0; point = 0; change = Set 70 }) (0, omega arith, refl) in
-    true≢false (sym (passes_each (λ (a : Access). not (a.column == 0)) (accesses five_lines 0) refl w.access w.listed) ∙ ap not (eq-eqb w.access.column 0 w.column))
+    true≢false (sym (passes_each (λ (a : Access). not (a.column == 0)) (all_accesses five_lines 0) refl w.access w.listed) ∙ ap not (eq-eqb w.access.column 0 w.column))

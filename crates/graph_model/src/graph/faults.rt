@@ -1,18 +1,15 @@
 //! The reasons that refuse an item after a graph.
 
-ghost use Rattle.std.specs.Prelude.{◌≡◌, length, map, nat_eq, nat_le};
-ghost use Rattle.std.specs.List.{list_any};
-ghost use Rattle.graph_terms.specs.declared.verb.Access.{Access};
-ghost use Rattle.graph_terms.specs.Access.{present, columns_alike};
-ghost use Rattle.graph_terms.specs.Fits.{repeats, most_weight, decl_repeats, decl_misnumbered, is_large, named_lines, takes_no_on, on_unlike, format_lacks, verb_misnumbered, merged_events, names_many};
-
 use super::Graph;
 use graph_indexes::counts::Counts;
-use graph_indexes::repeats::{names_repeat, numbers_repeat};
+use graph_indexes::repeats::numbers_repeat;
+use graph_items::calls::{accesses_many, call_accesses};
+use graph_items::decls::{decl_lacks, decl_misnumbered, decl_repeats, is_large};
+use graph_items::lines::{
+    any_past, columns_repeat, format_lacks, names_many, names_past, on_unlike, verb_misnumbered,
+};
 use graph_terms::access::{Accesses, verb_accesses};
 use graph_terms::decl::Decl;
-use graph_terms::format::Format;
-use graph_terms::limits::Limits;
 use graph_terms::name::Name;
 use graph_terms::verb::{Access, Line, Verb};
 use graph_terms::why::Why;
@@ -36,6 +33,9 @@ impl Graph {
         }
         if self.decl_unknown(decl) {
             return Some(Why::Unknown);
+        }
+        if decl_lacks(self.format, decl) {
+            return Some(Why::Kind);
         }
         if decl_misnumbered(self.format, decl) {
             return Some(Why::Number);
@@ -85,13 +85,20 @@ impl Graph {
         if verb_misnumbered(self.format, &line.verb) {
             return Some(Why::Number);
         }
-        if self.reaches_outside(accesses) {
+        let calls = call_accesses(&line.verb);
+        if self.reaches_outside(accesses) || self.any_outside(calls) {
             return Some(Why::Outside);
+        }
+        if self.any_clash(calls) {
+            return Some(Why::Meets);
         }
         if self.arrives_late(&line.verb) {
             return Some(Why::Arrivals);
         }
-        if names_many(self.format, line) || counts.is_above(self.format) {
+        if names_many(self.format, line)
+            || accesses_many(&line.verb)
+            || counts.is_above(self.format)
+        {
             return Some(Why::Limit);
         }
         None
@@ -108,6 +115,7 @@ impl Graph {
     {
         match decl {
             Decl::Inst { space, .. } => *space >= self.spaces(),
+            Decl::Data { space, .. } => *space >= self.spaces(),
             _ => false,
         }
     }
@@ -135,6 +143,7 @@ impl Graph {
             || any_past(line.on.as_slice(), lines)
             || self.verb_unknown(&line.verb)
             || self.reaches_unknown(accesses)
+            || self.any_unknown(call_accesses(&line.verb))
     }
 
     fn verb_unknown(&self, verb: &Verb) -> bool
@@ -246,143 +255,4 @@ impl Graph {
             _ => false,
         }
     }
-}
-
-fn decl_repeats(decl: &Decl) -> bool
-    ensures { result ≡ decl_repeats decl.now }
-{
-    match decl {
-        Decl::Inst { fields, .. } => names_repeat(fields.items.as_slice()),
-        _ => false,
-    }
-}
-
-fn decl_misnumbered(format: Format, decl: &Decl) -> bool
-    ensures { result ≡ decl_misnumbered format decl.now }
-{
-    match decl {
-        Decl::Inst { fields, .. } => fields.len() < 1,
-        Decl::Barrier { count, .. } => *count < 1 || *count > Limits::of(format).count,
-        _ => false,
-    }
-}
-
-/// Whether a declared space has too many intervals or points.
-fn is_large(format: Format, decl: &Decl) -> bool
-    ensures { result ≡ is_large format decl.now }
-{
-    match decl {
-        Decl::Space { space, .. } => {
-            let limits = Limits::of(format).space;
-            space.intervals().len() > limits.intervals as usize || space.size() > limits.points
-        }
-        _ => false,
-    }
-}
-
-/// Whether two accesses are of one column.
-fn columns_repeat(accesses: &Accesses) -> bool
-    ensures { result ≡ repeats nat_eq (map (λ (a : Access). a.column) (present accesses.now)) }
-{
-    are_alike(accesses[0], accesses[1])
-        || are_alike(accesses[0], accesses[2])
-        || are_alike(accesses[1], accesses[2])
-}
-
-fn are_alike(one: Option<Access>, other: Option<Access>) -> bool
-    ensures { result ≡ columns_alike one other }
-{
-    match (one, other) {
-        (Some(one), Some(other)) => one.column == other.column,
-        _ => false,
-    }
-}
-
-/// Whether a line that it names has this number or a greater one.
-fn names_past(verb: &Verb, lines: u32) -> bool
-    ensures { result ≡ list_any (λ i. nat_le lines i) (named_lines verb.now) }
-{
-    match verb {
-        Verb::Trigger { user } => *user >= lines,
-        Verb::Cancel { user } => *user >= lines,
-        Verb::Merge { events } => any_past(events.items.as_slice(), lines),
-        Verb::MergeIgnore { events } => any_past(events.items.as_slice(), lines),
-        Verb::Arrive { phase, .. } => *phase >= lines,
-        Verb::Release { acquire } => *acquire >= lines,
-        _ => false,
-    }
-}
-
-fn any_past(events: &[u32], lines: u32) -> bool
-    ensures { result ≡ list_any (λ i. nat_le lines i) events.now }
-{
-    events.iter().any(|event| *event >= lines)
-}
-
-fn takes_no_on(verb: &Verb) -> bool
-    ensures { result ≡ takes_no_on verb.now }
-{
-    match verb.kind() {
-        Some(kind) => !kind.takes_on(),
-        None => true,
-    }
-}
-
-/// Whether events stand behind `on` of a verb that takes none, or several where the format takes
-/// one at most.
-fn on_unlike(format: Format, line: &Line) -> bool
-    ensures { result ≡ on_unlike format line.now.verb line.now.on }
-{
-    let events = line.on.len();
-    events > 0 && takes_no_on(&line.verb) || events > 1 && !format.has_since(Format::Three)
-}
-
-/// Whether a verb is one that the format has not.
-fn format_lacks(format: Format, verb: &Verb) -> bool
-    ensures { result ≡ format_lacks format verb.now }
-{
-    match verb {
-        Verb::Acquire { shared, .. } => *shared && !format.has_since(Format::Two),
-        _ => false,
-    }
-}
-
-/// The most that one arrival may count for.
-fn most_weight(format: Format) -> u32
-    ensures { result ≡ most_weight format }
-{
-    match format {
-        Format::One => 1,
-        _ => Limits::of(format).count,
-    }
-}
-
-fn verb_misnumbered(format: Format, verb: &Verb) -> bool
-    ensures { result ≡ verb_misnumbered format verb.now }
-{
-    match verb {
-        Verb::Merge { events } => events.len() < 1,
-        Verb::MergeIgnore { events } => events.len() < 1,
-        Verb::Arrive { weight, .. } => *weight < 1 || *weight > most_weight(format),
-        _ => false,
-    }
-}
-
-/// How many events a merge names. 0 for any other verb.
-fn merged_events(verb: &Verb) -> u32
-    ensures { result ≡ length (merged_events verb.now) }
-{
-    match verb {
-        Verb::Merge { events } => events.len(),
-        Verb::MergeIgnore { events } => events.len(),
-        _ => 0,
-    }
-}
-
-/// Whether a merge names too many events, or too many stand behind `on`.
-fn names_many(format: Format, line: &Line) -> bool
-    ensures { result ≡ names_many format line.now.verb line.now.on }
-{
-    let most = Limits::of(format).events;
-    merged_events(&line.verb) > most || line.on.len() > most
 }

@@ -1,8 +1,8 @@
 //! The quantities of a graph with one more item.
 
 use super::Graph;
-use crate::graph::edges::count_edges;
 use graph_indexes::counts::{Counts, barriers_of, columns_of, insts_of, locks_of, spaces_of};
+use graph_items::edges::count_edges;
 use graph_terms::decl::Decl;
 use graph_terms::verb::Line;
 use index_spaces::limits::MAX_POINTS_OF_THREE;

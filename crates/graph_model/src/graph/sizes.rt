@@ -35,6 +35,13 @@ impl Graph {
             } => {
                 word_size(b"inst") + name_size(name) + self.space_size(*space) + fields_size(fields)
             }
+            Decl::Data {
+                name,
+                space,
+                fields,
+            } => {
+                word_size(b"data") + name_size(name) + self.space_size(*space) + fields_size(fields)
+            }
             Decl::Lock { name } => word_size(b"lock") + name_size(name),
             Decl::Barrier {
                 name,
@@ -54,7 +61,7 @@ impl Graph {
     /// A line, with its newline.
     pub(super) fn line_size(&self, line: &Line) -> u64
         ensures size { result ≡ length (spelled (line_words self.now line.now)) }
-        ensures few { result ≤ 549755813888 }
+        ensures few { result ≤ 2000000000000 }
     {
         name_size(&line.name)
             + word_size(b"=")
@@ -74,18 +81,19 @@ impl Graph {
 
     fn verb_size(&self, verb: &Verb) -> u64
         ensures size { result ≡ words_size (verb_words self.now verb.now) }
-        ensures few { result ≤ 274877906890 }
+        ensures few { result ≤ 1000000000000 }
     {
         match verb.kind() {
             Some(kind) => fixed_size(kind) + self.places_size(kind.places(), &verb.parts()),
-            None => self.merge_size(verb),
+            None => self.kindless_size(verb),
         }
     }
 
-    fn merge_size(&self, verb: &Verb) -> u64
+    /// The words of a merge or a call.
+    fn kindless_size(&self, verb: &Verb) -> u64
         requires { verb_kind verb.now ≡ None }
         ensures size { result ≡ words_size (verb_words self.now verb.now) }
-        ensures few { result ≤ 274877906890 }
+        ensures few { result ≤ 1000000000000 }
     {
         match verb {
             Verb::Merge { events } => word_size(b"merge")
@@ -93,6 +101,7 @@ impl Graph {
             Verb::MergeIgnore { events } => {
                 word_size(b"mergei") + self.events_size(events.items.as_slice())
             }
+            Verb::Call { call } => self.call_size(call),
             _ => unreachable!(),
         }
     }
@@ -166,7 +175,7 @@ impl Graph {
         name_size(&inst) + name_size(&field)
     }
 
-    fn space_size(&self, s: u32) -> u64
+    pub(super) fn space_size(&self, s: u32) -> u64
         ensures size { result ≡ length (space_name self.now s) + 1 }
         ensures few { result ≤ 64 }
     {

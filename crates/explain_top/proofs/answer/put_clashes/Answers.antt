@@ -10,7 +10,7 @@ use Rattle.explain_text.specs.Unread.{refused_text, limit_text, ended_text}
 use Rattle.explain_text.specs.TextLines.{TextLines}
 use Rattle.explain_text.proofs.Public.{put_as, puts_as, then_puts}
 use Rattle.explain_top.specs.Answer.{most_names, AreNamed, TellsSpace, limit_for, refused_line, advice_text}
-use Rattle.explain_top.specs.Fields.{fields_text}
+use Rattle.explain_top.specs.Columns.{columns_text}
 use Rattle.explain_top.proofs.Marking.{as_lines, marked}
 use Rattle.explain_top.proofs.Telling.{given_size, inside_all}
 use Rattle.explain_top.proofs.answer.put_clashes.Goals as goal
@@ -51,7 +51,7 @@ returns c =
     (then_puts r _ _ _ (limit_text limit) _ c.in_ok-put_limit.ensures
     (then_puts r _ _ _ (ended_text g ls ended) _ (put_as _ _ _ _ (ap (λ (q : List (List ℕ)). ended_text g (record { bytes = c.args.lines.now.bytes; lines = q; all = all }) ended) (sym c.requires)) c.in_ok-put_ended.ensures)
     (then_puts r _ _ _ (names_text ps named more ++ space_text ps space) _ c.in_ok-put_names.ensures
-    (then_puts r _ _ _ (fields_text g ws why mark) _ (subst (λ w. c.put_fields.new.text ≡ c.put_names.new.text ++ fields_text g (contents w) why mark) c.as_slice-10.ensures.value c.in_ok-put_fields.ensures)
+    (then_puts r _ _ _ (columns_text g ws why mark) _ (subst (λ w. c.put_columns.new.text ≡ c.put_names.new.text ++ columns_text g (contents w) why mark) c.as_slice-10.ensures.value c.in_ok-put_columns.ensures)
     (puts_as r _ _ _ _ (ap (λ l. advice_text g why l mark) c.line_at-line.ensures) c.put_advice.ensures)))))))
 
 pub space_for-space-requires : goal.space_for-space-requires

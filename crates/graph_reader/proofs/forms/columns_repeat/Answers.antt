@@ -2,7 +2,7 @@ use Rattle.std.proofs.Common.{List, ℕ, ◌+◌, ◌||◌, Bor, drop, sym, ◌�
 use Rattle.std.proofs.lemmas.Bool.{or_left}
 use Rattle.std.proofs.lemmas.List.{length-map}
 use Rattle.basics.specs.Words.{contents}
-use Rattle.graph_reader.proofs.PartLists.{columns_twice, is_again, columns_next, columns_over}
+use Rattle.graph_reader.proofs.ColumnLists.{columns_twice, is_again, columns_next, columns_over}
 use Rattle.graph_reader.proofs.forms.columns_repeat.Goals as goal
 
 pub returns-then-stands_again : goal.returns-then-stands_again

@@ -1,6 +1,6 @@
 use Rattle.std.proofs.Common.{◌≡◌, drop}
 use Rattle.basics.specs.Words.{contents}
-use Rattle.graph_reader.proofs.PartLists.{columns_twice}
+use Rattle.graph_reader.proofs.ColumnLists.{columns_twice}
 use Rattle.graph_reader.proofs.forms.columns_repeat.Given as goal
 
 abbrev pub invariant-loop-i : goal.invariant-loop-i

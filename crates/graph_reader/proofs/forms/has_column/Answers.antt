@@ -4,7 +4,7 @@ use Rattle.std.proofs.lemmas.Iterator.{YieldsList-from_slice, YieldsList-from_zi
 use Rattle.std.proofs.lemmas.Iterator.Search.{any_from_yields_List}
 use Rattle.graph_terms.specs.declared.table.Place.{Place}
 use Rattle.graph_terms.specs.Table.{is_column}
-use Rattle.graph_reader.proofs.PartLists.{column_listed}
+use Rattle.graph_reader.proofs.ColumnLists.{column_listed}
 use Rattle.graph_reader.proofs.forms.has_column.Goals as goal
 
 pub returns : goal.returns

@@ -1,7 +1,8 @@
 use Rattle.std.proofs.Common.{List, ℕ, Bor, map, ◌∙◌, ap, subst}
 use Rattle.graph_words.specs.Draft.{form_of, on_events, events_placed, words_in}
-use Rattle.graph_reader.specs.Kinds.{form_placed, AllTell, kind_placed}
-use Rattle.graph_reader.proofs.SeenWords.{all_tell_both}
+use Rattle.graph_reader.specs.Kinds.{form_placed, kind_placed}
+use Rattle.word_meanings.specs.Telling.{AllTell}
+use Rattle.word_meanings.proofs.Public.{all_tell_both}
 use Rattle.graph_reader.proofs.forms.see_form.Goals as goal
 
 pub returns-clause-faults : goal.returns-clause-faults

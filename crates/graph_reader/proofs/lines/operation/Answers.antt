@@ -1,4 +1,4 @@
-use Rattle.std.proofs.Common.{◌≤◌, Ok, Err, List, ℕ, Bor, length, drop, map, sym, ◌∙◌, ap, arith}
+use Rattle.std.proofs.Common.{◌≤◌, List, ℕ, Bor, length, drop, map, sym, ◌∙◌, ap, arith}
 use Rattle.std.proofs.lemmas.List.{length-map}
 use Rattle.graph_words.specs.Draft.{line_draft}
 use Rattle.graph_reader.proofs.LineShapes.{line_by_sign, line_read, operation_long}
@@ -7,10 +7,6 @@ use Rattle.graph_reader.proofs.lines.operation.Goals as goal
 pub behind-requires : goal.behind-requires
 behind-requires c = let l : 2 ≤ length (map (λ (w : Bor (List ℕ)). w.now) c.args.words.now) = operation_long (map (λ (w : Bor (List ℕ)). w.now) c.args.words.now) c.requires.operation in omega (arith, length-map c.args.words.now (λ (w : Bor (List ℕ)). w.now))
 
-pub returns-in-Ok : goal.returns-in-Ok
-returns-in-Ok c = line_read c.args.graph.now (map (λ (w : Bor (List ℕ)). w.now) c.args.words.now) _ (Ok c.in-Ok.line) c.requires.filled
-    (line_by_sign c.args.graph.now (map (λ (w : Bor (List ℕ)). w.now) c.args.words.now) c.requires.operation ∙ (ap (λ n. line_draft c.args.graph.now n (drop 2 (map (λ (w : Bor (List ℕ)). w.now) c.args.words.now))) (sym c.word.ensures) ∙ ap (line_draft c.args.graph.now c.word.result.now) (sym c.behind.ensures))) c.in-Ok.ensures
-
-pub returns-in-Err : goal.returns-in-Err
-returns-in-Err c = line_read c.args.graph.now (map (λ (w : Bor (List ℕ)). w.now) c.args.words.now) _ (Err c.in-Err.error) c.requires.filled
-    (line_by_sign c.args.graph.now (map (λ (w : Bor (List ℕ)). w.now) c.args.words.now) c.requires.operation ∙ (ap (λ n. line_draft c.args.graph.now n (drop 2 (map (λ (w : Bor (List ℕ)). w.now) c.args.words.now))) (sym c.word.ensures) ∙ ap (line_draft c.args.graph.now c.word.result.now) (sym c.behind.ensures))) c.in-Err.ensures
+pub returns : goal.returns
+returns c = line_read c.args.graph.now (map (λ (w : Bor (List ℕ)). w.now) c.args.words.now) _ c.read_line.result c.requires.filled
+    (line_by_sign c.args.graph.now (map (λ (w : Bor (List ℕ)). w.now) c.args.words.now) c.requires.operation ∙ (ap (λ n. line_draft c.args.graph.now n (drop 2 (map (λ (w : Bor (List ℕ)). w.now) c.args.words.now))) (sym c.word.ensures) ∙ ap (line_draft c.args.graph.now c.word.result.now) (sym c.behind.ensures))) c.read_line.ensures

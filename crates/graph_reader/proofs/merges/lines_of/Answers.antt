@@ -2,7 +2,7 @@ use Rattle.std.proofs.Common.{ℕ, sym, ◌∙◌, ap, arith}
 use Rattle.std.specs.Prelude.{Option, is_some, unwrap_or, bytes_eq}
 use Rattle.graph_terms.specs.declared.verb.Line.{Line}
 use Rattle.graph_words.specs.Draft.{line_number}
-use Rattle.graph_reader.specs.FirstFault.{is_line_name}
+use Rattle.word_meanings.specs.WordFaults.{is_line_name}
 use Rattle.basics.proofs.TestedLists.{position_any}
 use Rattle.graph_words.proofs.Public.{passed_more, failed_at, numbers_more}
 use Rattle.graph_reader.proofs.merges.lines_of.Goals as goal

@@ -11,5 +11,5 @@ returns c =
     let ws = contents c.args.words.now in
     let old = c.args.out.now.items in
     let new = c.put_forms.new.out.items in
-    subst (λ b. OnOk r (new ≡ old ++ cond b (codes "declarations stand above all operations\n") (forms_text ws (told_texts c.args.format ws FORMS)))) (sym (sym c.is_misplaced.ensures ∙ c.if-is_misplaced.false))
-    (subst (λ z. OnOk r (new ≡ old ++ forms_text ws z)) (c.as_slice.ensures.value ∙ c.in_ok-forms.ensures) c.put_forms.ensures)
+    subst (λ b. OnOk r (new ≡ old ++ cond b (codes "declarations stand above all operations\n") (forms_text c.args.format ws (told_texts c.args.format ws FORMS)))) (sym (sym c.is_misplaced.ensures ∙ c.if-is_misplaced.false))
+    (subst (λ z. OnOk r (new ≡ old ++ forms_text c.args.format ws z)) (c.as_slice.ensures.value ∙ c.in_ok-forms.ensures) c.put_forms.ensures)

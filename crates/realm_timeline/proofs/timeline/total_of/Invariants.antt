@@ -7,5 +7,5 @@ use Rattle.realm_timeline.proofs.timeline.total_of.Given as goal
 abbrev pub invariant-loop-line : goal.invariant-loop-line
 invariant-loop-line l = record {
   total : l.total ≡ sum_by (planned_cost l.graph l.slots) (numbers_below l.line);
-  few : l.total ≤ 17179869184 * l.line;
+  few : l.total ≤ 68719476736 * l.line;
 }

@@ -1,6 +1,6 @@
 use Rattle.std.proofs.Common.{◌∙◌, sym}
 use Rattle.explain_text.proofs.Public.{puts_as}
-use Rattle.refusal_text.proofs.RefusalFacts.{advice_bare, advice_too, advice_merge}
+use Rattle.refusal_text.proofs.RefusalFacts.{advice_bare}
 use Rattle.refusal_text.proofs.conflict.put_advice_by.Goals as goal
 
 pub returns-then-is_empty : goal.returns-then-is_empty

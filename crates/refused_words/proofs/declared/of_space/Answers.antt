@@ -1,5 +1,5 @@
-use Rattle.std.proofs.Common.{◌≡◌, length, sym, ◌∙◌, ap, arith}
-use Rattle.std.specs.Prelude.{option_map, unwrap_or, Some, None, slice_index_or, []}
+use Rattle.std.proofs.Common.{◌≡◌, length, ◌∙◌, ap, arith}
+use Rattle.std.specs.Prelude.{unwrap_or, []}
 use Rattle.std.proofs.lemmas.List.{length-map}
 use Rattle.basics.specs.Words.{contents}
 use Rattle.graph_words.specs.Words.{intervals_of}

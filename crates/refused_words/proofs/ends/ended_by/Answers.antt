@@ -2,8 +2,8 @@ use Rattle.std.proofs.Common.{sym, ◌∙◌, ap}
 use Rattle.std.specs.Prelude.{Some, option_map}
 use Rattle.basics.specs.Words.{contents}
 use Rattle.graph_words.specs.Draft.{as_place}
-use Rattle.graph_reader.specs.FirstFault.{twice}
-use Rattle.graph_reader.specs.Kinds.{named_number}
+use Rattle.word_meanings.specs.WordFaults.{twice}
+use Rattle.word_meanings.specs.Telling.{named_number}
 use Rattle.refused_words.specs.Places.{place_value, place_at}
 use Rattle.refused_words.proofs.RefusedFacts.{ending_of, not_false}
 use Rattle.refused_words.proofs.ends.ended_by.Goals as goal

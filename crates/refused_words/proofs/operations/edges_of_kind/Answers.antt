@@ -2,7 +2,8 @@ use Rattle.std.proofs.Common.{length, sym, ◌∙◌, ap, subst}
 use Rattle.basics.specs.Words.{contents}
 use Rattle.graph_terms.specs.Edges.{verb_edges}
 use Rattle.graph_words.specs.Draft.{BarrierName}
-use Rattle.graph_reader.specs.Kinds.{HasPlaces, kind_verb, named_number}
+use Rattle.graph_reader.specs.Kinds.{HasPlaces, kind_verb}
+use Rattle.word_meanings.specs.Telling.{named_number}
 use Rattle.refused_words.proofs.LimitFacts.{phase_gives}
 use Rattle.refused_words.proofs.operations.edges_of_kind.Goals as goal
 

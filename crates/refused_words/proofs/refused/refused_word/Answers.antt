@@ -1,7 +1,8 @@
-use Rattle.std.proofs.Common.{◌≡◌, ◌<◌, inr, length, below_more, sym, ◌∙◌, subst, arith}
+use Rattle.std.proofs.Common.{◌≡◌, ◌<◌, inr, length, below_more, sym, ◌∙◌, ap, subst, arith}
 use Rattle.std.proofs.lemmas.List.{length-map}
 use Rattle.basics.specs.Words.{contents}
-use Rattle.refused_words.specs.Refused.{IsFirstRepeat}
+use Rattle.refused_words.specs.Places.{WordsIn}
+use Rattle.refused_words.specs.Refused.{IsFirstRepeat, refuses_at}
 use Rattle.refused_words.proofs.RefusedFacts.{at_repeat, no_repeat, fine_at}
 use Rattle.refused_words.proofs.refused.refused_word.Goals as goal
 
@@ -11,8 +12,9 @@ loop-k-preserved c =
     let ws = contents c.args.words.now in
     let k = c.loop-k.k in
     let size : length ws ≡ length c.args.words.now = simp length-map in
-    let first = subst (λ fm. IsFirstRepeat fm c.args.why ws c.in_ok-repeat.repeat) c.format.ensures c.in_ok-repeat.ensures in
-    below_more _ _ c.loop-k.invariant (fine_at g c.args.why ws k (sym c.in_ok-is_refused.ensures ∙ c.if-branch.false)
+    let line : c.of-line.result ≡ record { format = g.format; words = ws } = c.of-line.ensures ∙ ap (λ fm. record { format = fm; words = ws }) c.format.ensures in
+    let first = subst (λ (l : WordsIn). IsFirstRepeat l.format c.args.why l.words c.in_ok-repeat.repeat) line c.in_ok-repeat.ensures in
+    below_more _ _ c.loop-k.invariant (fine_at g c.args.why ws k (ap (λ (l : WordsIn). refuses_at g c.args.why l.words k) (sym line) ∙ (sym c.in_ok-is_refused.ensures ∙ c.if-branch.false))
     (no_repeat g.format c.args.why ws c.in_ok-repeat.repeat k first (sym c.is_number.ensures ∙ c.if-is_number.false) (omega arith) (λ j l r. c.loop-k.invariant j l (inr r))))
 
 pub returns-then-is_number : goal.returns-then-is_number
@@ -21,7 +23,8 @@ returns-then-is_number c =
     let ws = contents c.args.words.now in
     let size : length ws ≡ length c.args.words.now = simp length-map in
     let below : c.loop-k.k < length ws = omega arith in
-    let first = subst (λ fm. IsFirstRepeat fm c.args.why ws c.in_ok-repeat.repeat) c.format.ensures c.in_ok-repeat.ensures in
+    let line : c.of-line.result ≡ record { format = g.format; words = ws } = c.of-line.ensures ∙ ap (λ fm. record { format = fm; words = ws }) c.format.ensures in
+    let first = subst (λ (l : WordsIn). IsFirstRepeat l.format c.args.why l.words c.in_ok-repeat.repeat) line c.in_ok-repeat.ensures in
     (below, inr (at_repeat g.format c.args.why ws c.in_ok-repeat.repeat c.loop-k.k first (sym c.is_number.ensures ∙ c.if-is_number.true)), c.loop-k.invariant)
 
 pub returns : goal.returns

@@ -1,11 +1,10 @@
 use Rattle.std.proofs.Common.{ℕ, ◌<◌}
-use Rattle.basics.specs.Words.{contents}
 use Rattle.refused_words.specs.Refused.{StandsBefore}
 use Rattle.refused_words.specs.Repeats.{AreSeen}
 use Rattle.refused_words.proofs.repeats.first_twice.Given as goal
 
 abbrev pub invariant-loop-k : goal.invariant-loop-k
 invariant-loop-k l = record {
-  seen : AreSeen l.format (contents l.words) l.k l.seen.events l.seen.columns;
-  none : (j : ℕ) → j < l.k → StandsBefore l.format (contents l.words) j → ⊥;
+  seen : AreSeen l.line.format l.line.words l.k l.seen.events l.seen.columns;
+  none : (j : ℕ) → j < l.k → StandsBefore l.line.format l.line.words j → ⊥;
 }

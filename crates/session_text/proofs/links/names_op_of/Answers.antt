@@ -1,6 +1,6 @@
 use Rattle.std.proofs.Common.{◌≡◌, true, ◌&&◌, sym, ap, ◌∙◌}
 use Rattle.std.specs.Prelude.{bytes_eq}
-use Rattle.graph_reader.specs.FirstFault.{is_line_name}
+use Rattle.word_meanings.specs.WordFaults.{is_line_name}
 use Rattle.session_text.specs.Fits.{has_op}
 use Rattle.session_text.proofs.OpNames.{judged_names}
 use Rattle.session_text.proofs.links.names_op_of.Goals as goal

@@ -1,7 +1,7 @@
 use Rattle.std.proofs.Common.{rules, List, ℕ, Bor, sym, ◌∙◌}
 use Rattle.std.proofs.lemmas.Iterator.{YieldsList-from_slice}
 use Rattle.std.proofs.lemmas.Iterator.Search.{any_from_yields_List}
-use Rattle.graph_reader.specs.FirstFault.{is_empty}
+use Rattle.word_meanings.specs.Words.{is_empty}
 use Rattle.basics.proofs.TestedLists.{any_map}
 use Rattle.graph_reader.proofs.Public.{empty_is}
 use Rattle.session_text.proofs.words.any_empty.Goals as goal

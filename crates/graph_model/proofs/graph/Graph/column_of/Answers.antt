@@ -2,10 +2,9 @@ use Rattle.std.proofs.Common.{◌≡◌, ◌+◌, ◌<◌, ◌≤◌, List, ℕ,
 use Rattle.std.specs.Prelude.{Some, position, slice_get}
 use Rattle.std.specs.Str.{bytes_eq}
 use Rattle.std.proofs.lemmas.Option.{slice_get_read}
-use Rattle.graph_terms.specs.declared.decl.Decl.TheVariants.{Inst}
-use Rattle.graph_terms.specs.Graph.{GraphValue, columns}
+use Rattle.graph_terms.specs.Graph.{GraphValue, columns_of, columns, data_columns}
 use Rattle.graph_terms.specs.Names.{is_inst_named, is_column_named}
-use Rattle.graph_indexes.specs.Tables.{TablesValue, tables_of}
+use Rattle.graph_indexes.specs.Tables.{TablesValue}
 use Rattle.graph_model.proofs.TableLaws.{length-firsts}
 use Rattle.graph_model.proofs.ColumnLaws.{first_below, column_found}
 use Rattle.graph_model.proofs.graph.Graph.column_of.Goals as goal
@@ -30,14 +29,14 @@ pub first_column-requires : goal.first_column-requires
 first_column-requires c =
     let inst_at : position (is_inst_named c.args.inst.now) c.self.inside.decls.items ≡ Some c.args.d = subst (λ (g : GraphValue). position (is_inst_named c.args.inst.now) g.decls ≡ Some c.args.d) (sym c.self.view_is) c.requires in
     let below : c.args.d < length c.self.inside.decls.items = first_below (is_inst_named c.args.inst.now) c.self.inside.decls.items c.args.d inst_at in
-    let long : length c.self.inside.tables.first_columns ≡ length c.self.inside.decls.items = ap (λ (t : TablesValue). length t.first_columns) c.self.invariant.tables ∙ length-firsts 0 c.self.inside.decls.items in
+    let long : length c.self.inside.tables.first_columns ≡ length c.self.inside.decls.items = ap (λ (t : TablesValue). length t.first_columns) c.self.invariant.tables ∙ length-firsts columns_of 0 c.self.inside.decls.items in
     omega (arith, below, long)
 
 pub overflow_add-result : goal.overflow_add-result
 overflow_add-result c =
     let a = (goal.at.overflow_add-result c).After-first_column in
     let within : c.first_column.result + c.in-Some.place < length (columns (of a)) = (found a).1 in
-    let few : length (columns (of a)) ≤ 4096 = c.self.invariant.limits.few_columns in
+    let few : length (columns (of a)) + length (data_columns (of a)) ≤ 4096 = c.self.invariant.limits.few_columns in
     omega (arith, within, few)
 
 pub returns-in-Some : goal.returns-in-Some

@@ -1,12 +1,12 @@
 use Rattle.std.proofs.Common.{◌+◌, ◌-◌, ◌≡◌, inl, inr, subst, arith}
 use Rattle.std.specs.Prelude.{Contains}
 use Rattle.std.proofs.lemmas.Bool.{cases_lt}
-use Rattle.graph_terms.specs.Access.{accesses}
+use Rattle.graph_terms.specs.Access.{all_accesses}
 use Rattle.race_check.specs.Races.{IsAsked}
 use Rattle.race_check.proofs.block_conflicts.Asked.new.Goals as goal
 
 pub loop-line-init : goal.loop-line-init
-loop-line-init c = record { asked = record { used_size = omega (arith, c.in_ok-filled.ensures.size, c.columns-columns.ensures.number); changed_size = omega (arith, c.in_ok-filled-2.ensures.size, c.columns-columns.ensures.number); each = λ b a h. absurd (omega arith) } }
+loop-line-init c = record { asked = record { used_size = omega (arith, c.in_ok-filled.ensures.size, c.all_columns-columns.ensures); changed_size = omega (arith, c.in_ok-filled-2.ensures.size, c.all_columns-columns.ensures); each = λ b a h. absurd (omega arith) } }
 
 pub loop-line-preserved : goal.loop-line-preserved
 loop-line-preserved c =
@@ -23,7 +23,7 @@ loop-line-preserved c =
           | inr up ↦ (
               let at : first + b ≡ n = omega arith in
               let bit : n - first ≡ b = omega arith in
-              subst (λ z. IsAsked c.add_line.new.self.used.items c.add_line.new.self.changed.items a z) bit (e.added a (subst (λ z. Contains (accesses c.args.graph.now z) a) at has)))
+              subst (λ z. IsAsked c.add_line.new.self.used.items c.add_line.new.self.changed.items a z) bit (e.added a (subst (λ z. Contains (all_accesses c.args.graph.now z) a) at has)))
         ];
       };
     }

@@ -23,4 +23,4 @@ returns-in_default-clause-classes c =
     let g = c.args.graph.now in
     let lines = c.args.order.now in
     classes_filled g lines c.loop-k.self.classes.keys.items c.loop-k.self.classes.of.items c.loop-k.self.classes.sites.items c.loop-k.self.classes.begins.items c.args.place c.loop-k.k (omega arith)
-    (no_more g (slice_index lines c.args.place) c.loop-k.k (sym c.access.ensures ∙ c.in_default.is)) c.loop-k.invariant.classes
+    (no_more g (slice_index lines c.args.place) c.loop-k.k (sym c.any_access.ensures ∙ c.in_default.is)) c.loop-k.invariant.classes

@@ -19,5 +19,5 @@ returns c = record {
       (subst (λ xs. IsBestOf (chain_cost_at xs) c.edges_into.result.now c.best_of-best.result) c.deref.ensures.value c.best_of-best.ensures);
   costs_are = c.set.ensures.costs ∙ ap (λ n. slice_set c.args.self.now.costs.items c.args.line (best_cost c.best_of-best.result + n)) c.cost_of-cost.ensures.cost;
   before_are = c.set.ensures.before;
-  few = subst (λ n. n ≤ 17179869184) c.cost_of-cost.ensures.cost c.cost_of-cost.ensures.few;
+  few = subst (λ n. n ≤ 68719476736) c.cost_of-cost.ensures.cost c.cost_of-cost.ensures.few;
 }

@@ -13,7 +13,7 @@ add_line-requires-clause-line c = order_line c.args.graph.now c.args.order.now c
 
 pub add_line-requires-clause-few : goal.add_line-requires-clause-few
 add_line-requires-clause-few c = λ i. (
-    let f : chain_cost_at c.loop-place.chain_costs.costs.items i ≤ 17179869184 * c.loop-place.place = c.loop-place.invariant.few i in
+    let f : chain_cost_at c.loop-place.chain_costs.costs.items i ≤ 68719476736 * c.loop-place.place = c.loop-place.invariant.few i in
     let n : length c.args.order.now ≤ length c.args.graph.now.lines = c.requires.few in
     omega arith)
 

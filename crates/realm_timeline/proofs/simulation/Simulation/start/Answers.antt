@@ -6,14 +6,14 @@ use Rattle.realm_timeline.proofs.simulation.Simulation.start.Goals as goal
 
 pub overflow_add-finish : goal.overflow_add-finish
 overflow_add-finish c =
-    let small : c.args.self.now.time + 17179869184 * undone c.args.self.now.done.items (length c.args.graph.now.lines) ≤ 17179869184 * length c.args.graph.now.lines = c.requires.simulation.small.time in
+    let small : c.args.self.now.time + 68719476736 * undone c.args.self.now.done.items (length c.args.graph.now.lines) ≤ 68719476736 * length c.args.graph.now.lines = c.requires.simulation.small.time in
     omega arith
 
 pub returns : goal.returns
 returns c = (
   c.in-Some.line,
   starts_with c.args.graph.now (state_of c.args.self.now) _ c.args.place c.args.processor c.in-Some.line c.take_at.new.queues.items
-      c.in-Some.ensures.line.0 c.in-Some.ensures.line.1 c.in-Some.ensures.line.2 c.in_ok-add_holder.ensures.holder (c.in_ok-add_holder.ensures.count ∙ c.take_at.ensures.count) (subst (λ x. x ≤ 17179869184) c.cost_of.ensures.cost c.cost_of.ensures.few) refl
+      c.in-Some.ensures.line.0 c.in-Some.ensures.line.1 c.in-Some.ensures.line.2 c.in_ok-add_holder.ensures.holder (c.in_ok-add_holder.ensures.count ∙ c.take_at.ensures.count) (subst (λ x. x ≤ 68719476736) c.cost_of.ensures.cost c.cost_of.ensures.few) refl
       (ap (λ f. slice_set c.args.self.now.slots.items c.in-Some.line (Some (record { processor = c.args.processor; start = c.args.self.now.time; finish = c.args.self.now.time + f }))) c.cost_of.ensures.cost)
       c.in_ok-push.ensures.ok refl refl refl,
 )

@@ -1,0 +1,9 @@
+pub mod WordLaws
+pub mod WordFacts
+pub mod GraphNames
+pub mod Owners
+pub mod Places
+pub mod ColumnWords
+pub mod SeenWords
+pub mod PartLists
+pub mod Public

@@ -1,0 +1,7 @@
+pub mod Words
+pub mod WordFaults
+pub mod Lookups
+pub mod Telling
+pub mod Names
+pub mod Places
+pub mod Laws
