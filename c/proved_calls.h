@@ -44,4 +44,24 @@ uint32_t proved_realm_events_close(struct proved_held *owner);
 uint32_t proved_realm_events_closed_look(struct proved_held *closed, struct proved_event event);
 uint32_t proved_realm_events_closed_place(struct proved_held *closed, uint32_t waiter, struct proved_event *event);
 void proved_realm_events_free(struct proved_held *held);
+
+/* realm_tasks_c: a window of tasks over pieces of memory, which are numbered from 0. A call that does not answer DONE changes nothing.
+   new, add_pieces and insert answer NO_MEMORY too. */
+struct realm_piece { uint32_t first, count, writes; };   /* consecutive pieces that a task accesses */
+enum realm_window_status { REALM_WINDOW_DONE = 0, REALM_WINDOW_NONE = 4, REALM_WINDOW_NO_MEMORY = 7 };
+uint32_t proved_realm_window_new(struct proved_held *window);
+/* Adds pieces; `first` is the number of the first of them. RANGE where there would be too many. */
+uint32_t proved_realm_window_add_pieces(struct proved_held *window, uint32_t count, uint32_t *first);
+/* The number of the task is that within the window, from 0. RANGE where it has a piece that there is not. */
+uint32_t proved_realm_window_insert(struct proved_held *window, const struct realm_piece *accesses, size_t count, uint32_t *task);
+/* A task that is due, in the order in which they became so; NONE where none is. One that is cancelled has ended by this. */
+uint32_t proved_realm_window_take(struct proved_held *window, uint32_t *task, uint32_t *is_cancelled);
+/* RANGE where the task does not run. */
+uint32_t proved_realm_window_end(struct proved_held *window, uint32_t task, uint32_t failed);
+/* The number of a realm_task_state. RANGE where there is no such task. */
+uint32_t proved_realm_window_status(struct proved_held *window, uint32_t task, uint32_t *status);
+uint32_t proved_realm_window_left(struct proved_held *window, uint32_t *left);
+/* The window has no tasks then, and keeps its pieces. WORK_OUT where tasks have not ended. */
+uint32_t proved_realm_window_clear(struct proved_held *window);
+void proved_realm_window_free(struct proved_held *window);
 #endif

@@ -88,8 +88,7 @@ static int make_chunk(void) {
     return 1;
 }
 
-/* Whether a number names something, in use or not. */
-static int is_held(uint64_t number) {
+int realm_is_held(uint64_t number) {
     struct realm_entry *entry = number ? entry_of(number) : 0;
     if (!entry) return 0;
     uint64_t word = entry->word;
@@ -97,7 +96,7 @@ static int is_held(uint64_t number) {
 }
 
 uint32_t realm_reserve(const uint64_t *handle, struct realm_entry **out) {
-    if (is_held(number_in(handle))) return REALM_MISUSE_FILLED;
+    if (realm_is_held(number_in(handle))) return REALM_MISUSE_FILLED;
     struct realm_entry *entry = 0;
     pthread_mutex_lock(&making);
     if (first_free != NO_ENTRY || make_chunk()) {

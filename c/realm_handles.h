@@ -10,10 +10,10 @@ enum { REALM_DID = 0, REALM_NO_MEMORY_LEFT = 7 };
 /* What an entry holds; a set of kinds is a sum of them. */
 enum realm_kind {
     KIND_RUN = 1, KIND_WORK = 2, KIND_PLACE = 4, KIND_OWNER = 8, KIND_PENDING = 16, KIND_WAITER = 32, KIND_ENDED = 64,
-    KIND_RECEIPT = 128, KIND_CLOSED = 256
+    KIND_RECEIPT = 128, KIND_CLOSED = 256, KIND_TASKS = 512
 };
 
-/* What a proved call reads and writes in the place of a handle. */
+/* What a proved call reads and writes in the place of a handle. In an entry for tasks it leads to their runtime. */
 struct proved_held { void *at; };
 
 /* An entry of the table. All but `word` belongs to who entered it or has just reserved it. */
@@ -48,8 +48,11 @@ uint32_t realm_reserve(const uint64_t *handle, struct realm_entry **out);
 /* Fills the handle with what a call has put into the reserved entry, or gives the entry back where the call's status is not DID. */
 uint32_t realm_fill(struct realm_entry *made, uint32_t kind, uint32_t status, uint64_t *handle);
 
-/* The number of an entry that is entered. */
+/* The number of an entry that is entered or reserved. */
 uint64_t realm_number(const struct realm_entry *entry);
+
+/* Whether a number names something, in use or not. */
+int realm_is_held(uint64_t number);
 
 #pragma GCC visibility pop
 #endif

@@ -212,7 +212,8 @@ uint32_t realm_work_free(struct realm_work *work);
 uint32_t realm_explain(const uint8_t *text, size_t length, uint8_t *out, size_t room, uint64_t *written);
 
 /* One line on an answer, without an end of line: of a number of realm_status, or of one of realm_run_status. Either has a line on
-   each number of realm_misuse, and one that says so on a number that is none of these. DONE, NO_ROOM. */
+   each number of realm_misuse but those of tasks alone, 27 to 30, of which realm_tasks_message has, and one that says so on a number that
+   is none of these. DONE, NO_ROOM. */
 uint32_t realm_message(uint32_t status, uint8_t *out, size_t room, uint64_t *written);
 uint32_t realm_run_message(uint32_t status, uint8_t *out, size_t room, uint64_t *written);
 

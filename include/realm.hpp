@@ -1,14 +1,17 @@
-// A C++20 face of realm.h and realm_events.h: results in place of buffers, and handles that move and are never copied. It adds
+// A C++20 face of realm.h, realm_events.h and realm_tasks.h: results in place of buffers, and handles that move and are never copied. It adds
 // no claim, and what those ask of the program it has to keep here too.
 #pragma once
 #include "realm.h"
 #include "realm_events.h"
+#include "realm_tasks.h"
 #include <cstdint>
 #include <functional>
+#include <initializer_list>
 #include <map>
 #include <optional>
 #include <string>
 #include <string_view>
+#include <type_traits>
 #include <utility>
 #include <vector>
 
@@ -156,6 +159,45 @@ struct Run : Handle<realm_run, realm_run_free> {
         return text_of([this](uint8_t *out, size_t room, uint64_t *written) { return realm_run_report(&held, out, room, written); });
     }
 };
+
+// A runtime of tasks, which is waited for and freed with this. A task is a lambda or a function object, which is copied: it holds plain data,
+// as numbers and pointers, of at most 128 bytes. It answers nothing, or 0 or a fault, and throws nothing: one that does ends the program.
+struct Tasks : Handle<realm_tasks, realm_tasks_free> {
+    // Begins a runtime in the place of what was held, with so many workers.
+    uint32_t begin(uint32_t workers) {
+        free();
+        return realm_tasks_new(workers, &held);
+    }
+    uint32_t data(void *pointer, size_t bytes, realm_data &out) { return realm_data_new(&held, pointer, bytes, &out); }
+    uint32_t alloc(size_t bytes, void *&pointer, realm_data &out) { return realm_data_alloc(&held, bytes, &pointer, &out); }
+    uint32_t tiles(realm_data data, const std::vector<size_t> &sizes) {
+        return realm_data_tiles(&held, data, static_cast<uint32_t>(sizes.size()), sizes.data());
+    }
+    uint32_t free_data(realm_data &data) { return realm_data_free(&held, &data); }
+    template <typename Body> uint32_t insert(std::initializer_list<realm_use> uses, const Body &body, uint64_t *number = nullptr) {
+        static_assert(std::is_trivially_copyable_v<Body> && sizeof(Body) <= REALM_MOST_VALUES && alignof(Body) <= 16);
+        auto run = [](void *at) noexcept -> uint32_t {
+            if constexpr (std::is_void_v<std::invoke_result_t<Body &>>) return (*static_cast<Body *>(at))(), 0;
+            else return (*static_cast<Body *>(at))();
+        };
+        uint64_t task = 0;
+        uint32_t status = realm_insert_values(&held, run, &body, sizeof body, uses.begin(), uses.size(), &task);
+        if (number && !status) *number = task;
+        return status;
+    }
+    uint32_t wait(realm_task_fault *fault = nullptr) { return realm_wait(&held, fault); }
+    uint32_t status(uint64_t task, uint32_t &state) { return realm_task_status(&held, task, &state); }
+    uint32_t window(uint32_t most) { return realm_tasks_window(&held, most); }
+    uint32_t stats(realm_task_stats &stats) { return realm_tasks_stats(&held, &stats); }
+    Text graph() {
+        return text_of([this](uint8_t *out, size_t room, uint64_t *written) { return realm_tasks_graph(&held, out, room, written); });
+    }
+};
+
+// One line on a number of realm_tasks_status or realm_misuse.
+inline std::string tasks_message(uint32_t status) {
+    return text_of([=](uint8_t *out, size_t room, uint64_t *written) { return realm_tasks_message(status, out, room, written); }).text;
+}
 
 namespace events {
 

@@ -1,7 +1,7 @@
 //! The core of a run in the state in which its words were closed.
 #![tactic(auto)]
 
-ghost use Rattle.std.specs.Prelude.{◌≡◌, ◌↔◌, ◌⊎◌, ℕ, List, [], Some, true};
+ghost use Rattle.std.specs.Prelude.{◌≡◌, ◌↔◌, ◌⊎◌, ℕ, List, [], Some, true, false};
 ghost use Rattle.graph_terms.specs.declared.outcome.End.{End as TheEnd};
 ghost use Rattle.run_state.specs.Run.{Ended, stage_at, time_at, issued};
 ghost use Rattle.event_table.specs.declared.handle.Fate.{Fate as TheFate};
@@ -24,6 +24,7 @@ pub fn core_of<'g>(words: Words<'g>, seat: WordSeat) -> Core<'g>
     requires at { IsAt words seat }
     requires all { HasAll seat }
     ensures graph { result.graph ≡ graph_of words.entry }
+    ensures unhosted { result.hosted ≡ false }
     ensures slots { slots_given result ≡ (shape_of (events_of words.entry)).slots }
     ensures nothing_out { NothingOut result }
     ensures issued { (i : ℕ) → KnowsIssued seat i ↔ (issued result.run.stages i ≡ true) }

@@ -4,4 +4,5 @@ pub mod EdgeTexts
 pub mod AcceptedFacts
 pub mod NamedFacts
 mod LineLaws
+mod CommentFacts
 pub mod Public

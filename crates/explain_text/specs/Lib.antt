@@ -1,5 +1,6 @@
 pub mod Visible
 pub mod TextLines
+pub mod Comments
 pub mod Shown
 pub mod Lines
 pub mod Accepted

@@ -4,6 +4,7 @@
 
 pub mod accepted;
 pub mod bounds;
+mod comment_counts;
 pub mod laws;
 pub mod lines;
 mod named;

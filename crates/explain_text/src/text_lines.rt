@@ -1,32 +1,37 @@
 //! A text that is explained, by its lines.
 
+use crate::comment_counts::{Counts, count_comments};
 use crate::split::{back, split_lines};
-use graph_comments::{is_closing, is_comment};
 use graph_words::comments::has_comments;
 use index_spaces::NoMemory;
 use std::alloc::Global;
 use std::marker::Model;
 
-/// The lines of a text, and whether long paths and lists are told whole.
+/// The lines of a text, and whether long paths and lists are told whole. The comments are counted once.
 #[derive(Drop)]
 pub struct Lines<'a> {
     bytes: &'a [u8],
     lines: Vec<&'a [u8]>,
+    counts: Counts,
     all: bool,
 }
 
 impl<'a> Model for Lines<'a> {
     ghost use Rattle.basics.specs.Words.{contents};
     ghost use Rattle.explain_text.specs.TextLines.{TextLines};
+    ghost use Rattle.explain_text.specs.Comments.{AreCounts};
 
     ghost Value = { TextLines };
 
     ghost view = { λ a. record { bytes = a.bytes.now; lines = contents a.lines.items; all = a.all } };
+
+    ghost invariant = { λ a. AreCounts a.counts (contents a.lines.items) };
 }
 
 impl<'a> Lines<'a> {
-    ghost use Rattle.std.specs.Prelude.{◌≡◌, ◌<◌, ◌^◌, ◌&&◌, not, nat_lt, IfOk};
+    ghost use Rattle.std.specs.Prelude.{◌≡◌, ◌<◌, ◌≤◌, ◌^◌, ◌&&◌, drop, length, not, nat_lt, IfOk};
     ghost use Rattle.basics.specs.Words.{contents};
+    ghost use Rattle.graph_comments.specs.Comments.{comments_above};
     ghost use Rattle.graph_words.specs.Words.{pieces};
     ghost use Rattle.explain_text.specs.Lines.{whole_number, is_cut};
 
@@ -35,7 +40,13 @@ impl<'a> Lines<'a> {
         ensures { IfOk result (λ v. v ≡ record { bytes = bytes.now; lines = pieces 10 bytes.now; all = all }) }
     {
         let lines = split_lines(alloc, bytes)?;
-        Ok(Lines { bytes, lines, all })
+        let counts = counts_behind(alloc, lines.as_slice())?;
+        Ok(Lines {
+            bytes,
+            lines,
+            counts,
+            all,
+        })
     }
 
     /// The lines.
@@ -53,7 +64,17 @@ impl<'a> Lines<'a> {
         if !has_comments(self.bytes) || number <= 1 {
             return number;
         }
-        number + comments_above(behind_first(self.lines.as_slice()), number - 2)
+        number + self.comments_above(number - 2)
+    }
+
+    /// How many comments stand above the line of a place among those behind the first that stay.
+    fn comments_above(&self, place: u64) -> u64
+        ensures above { result ≡ comments_above place (drop 1 self.now.lines) }
+        ensures few { result ≤ length self.now.lines }
+        ensures fits { length self.now.lines < 2 ^ 63 }
+    {
+        let _ = self.lines.len();
+        self.counts.at(place)
     }
 
     /// Whether long paths and lists are told whole.
@@ -71,49 +92,13 @@ impl<'a> Lines<'a> {
     }
 }
 
-ghost use Rattle.std.specs.Prelude.{◌≡◌, ◌≤◌, drop, length};
+ghost use Rattle.std.specs.Prelude.{IfOk};
 ghost use Rattle.basics.specs.Words.{contents};
-ghost use Rattle.graph_comments.specs.Comments.{all_stay, comments_above};
+ghost use Rattle.explain_text.specs.Comments.{AreCounts};
 
-/// The lines behind the first.
-fn behind_first<'a, 'b>(lines: &'b [&'a [u8]]) -> &'b [&'a [u8]]
-    ensures { contents result.now ≡ drop 1 (contents lines.now) }
+/// The comments among the lines behind the first.
+fn counts_behind(alloc: Global, lines: &[&[u8]]) -> Result<Counts, NoMemory>
+    ensures { IfOk result (λ v. AreCounts v (contents lines.now)) }
 {
-    back(lines, 1)
-}
-
-/// Whether a line and all behind it stay: it is the last, or the closing one.
-fn all_stay(line: &[u8], behind: &[&[u8]]) -> bool
-    ensures { result ≡ all_stay line.now (contents behind.now) }
-{
-    match behind {
-        [] => true,
-        [_, ..] => is_closing(line),
-    }
-}
-
-/// How many comments stand above the line of a place among those that stay.
-fn comments_above(lines: &[&[u8]], place: u64) -> u64
-    ensures above { result ≡ comments_above place (contents lines.now) }
-    ensures few { result ≤ length lines.now }
-{
-    let _ = lines.len();
-    let mut rest = lines;
-    let mut left = place;
-    let mut comments = 0;
-    while let [line, behind @ ..] = rest {
-        if all_stay(line, behind) {
-            return comments;
-        }
-        if is_comment(line) {
-            comments += 1;
-        } else {
-            if left == 0 {
-                return comments;
-            }
-            left -= 1;
-        }
-        rest = behind;
-    }
-    comments
+    count_comments(alloc, back(lines, 1))
 }

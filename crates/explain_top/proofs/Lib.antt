@@ -4,3 +4,4 @@ pub mod Marking
 pub mod Telling
 mod FieldFacts
 mod ColumnFacts
+pub mod FlowFacts

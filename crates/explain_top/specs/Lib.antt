@@ -1,4 +1,5 @@
 pub mod Fields
 pub mod Columns
 pub mod Answer
+pub mod Flows
 pub mod Program

@@ -4,7 +4,7 @@ use Rattle.graph_words.specs.Limits.{text_limit}
 use Rattle.realm_io.specs.SinkState.{SinkState}
 use Rattle.program_io.specs.Delivered as program
 use Rattle.program_io.specs.Delivered.{too_long_text}
-use Rattle.explain_top.specs.Answer.{IsAnswerIn}
+use Rattle.explain_top.specs.Flows.{IsInputAnswer}
 use Rattle.explain_top.specs.declared.answer.Verdict.{Verdict}
 use Rattle.explain_top.specs.declared.answer.Verdict.TheVariants as verdict
 use Rattle.explain_top.specs.declared.program.Status.{Status}
@@ -28,9 +28,9 @@ status_of verdict.Unread = Unread
 
 -- the answer to an input of these bytes, and the text that goes with it
 abbrev pub Answers : Bool → Bool → List ℕ → Status → List ℕ → Type 0
-Answers ends all bytes Accepted out = IsAnswerIn ends all bytes verdict.Accepted out
-Answers ends all bytes Unfit out = IsAnswerIn ends all bytes verdict.Unfit out
-Answers ends all bytes Unread out = IsAnswerIn ends all bytes verdict.Unread out
+Answers ends all bytes Accepted out = IsInputAnswer ends all bytes verdict.Accepted out
+Answers ends all bytes Unfit out = IsInputAnswer ends all bytes verdict.Unfit out
+Answers ends all bytes Unread out = IsInputAnswer ends all bytes verdict.Unread out
 Answers ends all bytes TooLong out = (text_limit bytes < length bytes) × (out ≡ too_long_text)
 Answers ends all bytes _ out = ⊥
 

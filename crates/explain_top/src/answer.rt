@@ -74,7 +74,7 @@ pub fn explain_in(alloc: Global, bytes: &[u8], ends: bool, all: bool) -> Result<
 }
 
 /// How many bytes an answer has at most.
-fn most_bytes(all: bool) -> usize
+pub(crate) fn most_bytes(all: bool) -> usize
     ensures number { result ≡ most_bytes all }
     ensures some { 4 ≤ result }
 {
@@ -82,7 +82,7 @@ fn most_bytes(all: bool) -> usize
 }
 
 /// An answer as it is told.
-fn as_told(alloc: Global, whole: &Answer, most: usize) -> Result<Answer, NoMemory>
+pub(crate) fn as_told(alloc: Global, whole: &Answer, most: usize) -> Result<Answer, NoMemory>
     requires { 4 ≤ most }
     ensures verdict { IfOk result (λ a. a.verdict ≡ whole.now.verdict) }
     ensures text { IfOk result (λ a. a.text ≡ told most (visible whole.now.text)) }
@@ -232,7 +232,11 @@ fn put_unfit(alloc: Global, unfit: &Unfit, lines: &Lines) -> Result<Text, NoMemo
 }
 
 /// The text on bytes that are no graph's.
-fn put_unread_text(alloc: Global, lines: &Lines, unread: &Unread) -> Result<Text, NoMemory>
+pub(crate) fn put_unread_text(
+    alloc: Global,
+    lines: &Lines,
+    unread: &Unread,
+) -> Result<Text, NoMemory>
     ensures { IfOk result (IsUnreadText lines.now unread.now.number unread.now.why unread.now.above) }
 {
     let mut text = Text::new(alloc);

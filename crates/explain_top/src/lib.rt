@@ -5,7 +5,9 @@ mod accepted;
 pub mod answer;
 mod columns;
 mod fields;
+pub mod flows;
 pub mod program;
 
 pub use answer::{Answer, Verdict, explain_bytes, explain_in};
+pub use flows::explain_input;
 pub use program::{Status, run};

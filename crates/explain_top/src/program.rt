@@ -6,12 +6,14 @@ ghost use Rattle.graph_meaning.specs.Rules.{Accepted};
 ghost use Rattle.graph_words.specs.Text.{GraphText};
 ghost use Rattle.graph_words.specs.Limits.{text_limit};
 ghost use Rattle.realm_io.specs.Counts.{Rose};
-ghost use Rattle.explain_top.specs.Answer.{IsAnswerIn};
+ghost use Rattle.explain_top.specs.Flows.{IsInputAnswer, FitsFormatOne};
+ghost use Rattle.flow_top.specs.FlowText.{FlowText};
 ghost use Rattle.program_io.specs.Delivered.{Delivered, BrokenOff, too_long_text};
 ghost use Rattle.explain_top.specs.Program.{exit_number, status_of, Answers, IsAnswered};
 ghost use Rattle.explain_top.specs.declared.answer.Verdict.{Verdict};
 
-use crate::answer::{Verdict, explain_in};
+use crate::answer::Verdict;
+use crate::flows::explain_input;
 use graph_reader::laws::bytes_have_one_reading;
 use graph_terms::limits::{MAX_TEXT, MAX_TEXT_OF_THREE};
 use graph_words::limits::LONG_START;
@@ -22,11 +24,11 @@ use std::alloc::Global;
 /// How the program ends.
 #[derive(Clone, Copy, Debug, PartialEq, Eq)]
 pub enum Status {
-    /// The graph is accepted.
+    /// The graph is accepted, or the flow has one.
     Accepted,
     /// The words are not those of the program.
     Usage,
-    /// The input is the text of no graph.
+    /// The input is the text of no graph, nor that of a flow that has one.
     Unread,
     /// The graph breaks a rule.
     Unfit,
@@ -78,7 +80,7 @@ pub fn run<S: Source, K: Sink>(
 ) -> Status
     // Accepted, Unfit and Unread: exactly this is so of the input, and the text that says why was written and flushed.
     ensures answered { (bytes : List ℕ) (verdict : Verdict) → S.left source.old ≡ Some bytes → result ≡ status_of verdict
-        → (out : List ℕ) × IsAnswerIn ends all bytes verdict out × Delivered (K.state sink.old) (K.state sink.new) out }
+        → (out : List ℕ) × IsInputAnswer ends all bytes verdict out × Delivered (K.state sink.old) (K.state sink.new) out }
 
     // TooLong: more bytes were left than a text that begins so may have, and the line that says so was written and flushed.
     ensures too_long { result ≡ Status.TooLong → (bytes : List ℕ) → S.left source.old ≡ Some bytes
@@ -96,6 +98,11 @@ pub fn run<S: Source, K: Sink>(
 
     // The text of a graph that is accepted is answered so, where with its comments it is not too long, unless a fault was counted or memory ran out.
     ensures complete { (bytes : List ℕ) (g : GraphValue) → S.left source.old ≡ Some bytes → length bytes ≤ text_limit bytes → GraphText bytes g → Accepted g
+        → ¬ (Rose (S.faults source.old) (S.faults source.new)) → ¬ (Rose (K.state sink.old).faults (K.state sink.new).faults)
+        → (result ≡ Status.Accepted) ⊎ (result ≡ Status.NoMemory) }
+
+    // So is the text of a flow whose graph passes no limit of format 1.
+    ensures complete_flow { (bytes : List ℕ) (f : GraphValue) → S.left source.old ≡ Some bytes → length bytes ≤ text_limit bytes → FlowText bytes f → FitsFormatOne f
         → ¬ (Rose (S.faults source.old) (S.faults source.new)) → ¬ (Rose (K.state sink.old).faults (K.state sink.new).faults)
         → (result ≡ Status.Accepted) ⊎ (result ≡ Status.NoMemory) }
 {
@@ -119,7 +126,7 @@ fn answer<K: Sink>(alloc: Global, bytes: &[u8], sink: &mut K, ends: bool, all: b
     ensures answered { IsAnswered ends all bytes.now (K.state sink.old) (K.state sink.new) result }
     ensures no_memory { result ≡ Status.NoMemory → sink.new ≡ sink.old }
 {
-    match explain_in(alloc, bytes, ends, all) {
+    match explain_input(alloc, bytes, ends, all) {
         Ok(answer) => put_text(sink, answer.text.bytes(), status_of(answer.verdict)),
         Err(_) => Status::NoMemory,
     }

@@ -1,12 +1,13 @@
 -- The text of a graph of format 1 whose lines are all those of a flow is, behind its first line, that of a flow.
-use Rattle.std.proofs.Common.{◌≡◌, ℕ, suc, ◌≤◌, Bool, true, false, cond, ◌&&◌, length, List, [], ◌∷◌, ◌++◌, refl, sym, ◌∙◌, ap, subst, append_assoc, arith}
-use Rattle.std.specs.Prelude.{◌==◌, slice_index, nat_lt, IsTrue}
+use Rattle.std.proofs.Common.{◌≡◌, ℕ, suc, ◌+◌, ◌^◌, ◌<◌, ◌≤◌, Bool, true, false, cond, ◌&&◌, length, List, [], ◌∷◌, ◌++◌, refl, sym, ◌∙◌, ap, subst, append_assoc, length-append, arith}
+use Rattle.std.specs.Prelude.{◌==◌, codes, slice_index, nat_lt, IsTrue}
 use Rattle.std.proofs.lemmas.Bool.{true≢false, and_parts, eqb-true}
 use Rattle.graph_terms.specs.declared.format.Format.{Format}
 use Rattle.graph_terms.specs.declared.format.Format.TheVariants.{One, Two, Three}
 use Rattle.graph_terms.specs.Limits.{limits}
 use Rattle.graph_terms.specs.Graph.{GraphValue, written_in}
-use Rattle.graph_terms.specs.Spelling.{header, decls_text, lines_text}
+use Rattle.graph_terms.specs.Spelling.{head, header, decls_text, lines_text}
+use Rattle.graph_terms.proofs.Public.{long_head, most_limits}
 use Rattle.graph_terms.specs.Fits.{IsGraph}
 use Rattle.graph_comments.specs.Comments.{bare_text}
 use Rattle.graph_words.specs.Text.{closing, text, bare_of, GraphText}
@@ -66,3 +67,13 @@ flow_in fm f flow fits = record { fits = fits; uses = flow.uses; waits = flow.wa
 -- a graph in its own format
 pub own_format : (fm : Format) (f : GraphValue) → f.format ≡ fm → f ≡ written_in fm f
 own_format fm f is = ap (λ x. written_in x f) is
+
+-- so few declarations and lines that the number of each fits
+pub few_items : (bytes : List ℕ) (f : GraphValue) → FlowText bytes f → length f.decls + length f.lines + 2 < 2 ^ 32
+few_items bytes f t =
+    let ends : length (text f) ≡ length (head f) + 4 = length-append (head f) (codes "end\n") in
+    let whole : length (header One ++ t.rest) ≡ length (text f) = ap length (sym (bare_is t.rest) ∙ t.is_text.is_text) in
+    let short : length (header One ++ t.rest) ≤ (limits f.format).text = subst (λ xs. length xs ≤ (limits f.format).text) (bare_is t.rest) t.is_text.short in
+    let most : (limits f.format).text ≤ 16777216 = (most_limits f.format).text in
+    let long : 1 + length f.decls + length f.lines ≤ length (head f) = long_head f in
+    omega arith

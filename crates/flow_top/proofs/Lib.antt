@@ -1,3 +1,4 @@
 pub mod FlowLines
 pub mod Readings
 pub mod WordForms
+pub mod Public

@@ -1,12 +1,11 @@
 -- The text of a flow, and why bytes are none.
-use Rattle.std.specs.Prelude.{◌≡◌, ℕ, ◌+◌, ◌-◌, ◌<◌, ◌==◌, ◌⊎◌, Bool, true, false, ◌&&◌, List, [], ◌∷◌, ◌++◌, length, drop, find, nat_le, ◌||◌, Option, Some, None, slice_get, slice_index_or, codes}
+use Rattle.std.specs.Prelude.{◌≡◌, ℕ, ◌+◌, ◌-◌, ◌<◌, ◌==◌, ◌⊎◌, Bool, true, false, ◌&&◌, List, [], ◌∷◌, ◌++◌, length, drop, find, nat_le, cond, ◌||◌, Option, Some, None, slice_get, slice_index_or, codes}
 use Rattle.std.specs.Option.{option_map_or}
 use Rattle.graph_terms.specs.declared.table.Kind.{Kind}
 use Rattle.graph_terms.specs.declared.table.Kind.TheVariants as kinds
 use Rattle.graph_terms.specs.declared.table.TheConstants.{KINDS}
 use Rattle.graph_terms.specs.Table.{kind_words}
 use Rattle.graph_words.specs.Draft.{same_word, form_of, has_on, is_of_form}
-use Rattle.graph_reader.specs.Reading.{is_operation}
 use Rattle.graph_words.specs.Words.{pieces}
 use Rattle.graph_terms.specs.declared.format.Format.TheVariants.{One}
 use Rattle.graph_terms.specs.declared.verb.Line.{Line}
@@ -17,7 +16,10 @@ use Rattle.graph_terms.specs.Spelling.{header}
 use Rattle.graph_words.specs.Text.{GraphText}
 use Rattle.graph_reader.specs.FirstFault.{FirstFault}
 use Rattle.flow_order.specs.Flow.{IsFlow, uses_columns}
+use Rattle.graph_reader.specs.Reading.{is_operation, IsUnreadBy}
 use Rattle.flow_top.specs.declared.FlowFault.{FlowFault}
+use Rattle.flow_top.specs.declared.reading.FlowReading.{FlowReading}
+use Rattle.flow_top.specs.declared.reading.FlowReading.TheVariants as readings
 use Rattle.flow_top.specs.declared.FlowFault.TheVariants as fault
 
 -- the first line
@@ -79,6 +81,17 @@ is_verb_unlike_flow ws = is_merge ws || option_map_or (λ kind. is_event_kind ki
 unfoldable pub is_unlike_flow : List (List ℕ) → Bool
 is_unlike_flow ws = is_operation ws && is_verb_unlike_flow (drop 2 ws)
 
+-- whether the words behind the sign have a verb that no flow has, and those of an operation line
+abbrev pub is_event_verb : List (List ℕ) → Bool
+is_event_verb ws = is_merge ws || option_map_or is_event_kind (find (λ kind. is_of_form One ws (form_of kind)) KINDS) false
+
+abbrev pub has_event_verb : List (List ℕ) → Bool
+has_event_verb ws = is_operation ws && is_event_verb (drop 2 ws)
+
+-- the word by which a line has the form of one that no flow has: its verb, or `on`, behind which one event stands
+abbrev pub other_word : List (List ℕ) → ℕ
+other_word ws = cond (has_event_verb ws) 2 (length ws - 2)
+
 -- the first line of another form among the first n lines of a text, from 0, or there is none
 abbrev pub IsFirstUnlikeFlow : List ℕ → ℕ → Option ℕ → Type 0
 IsFirstUnlikeFlow text n (Some line) = (line < n) × (is_unlike_flow (words_of_line text line) ≡ true) × ((i : ℕ) → i < line → is_unlike_flow (words_of_line text i) ≡ false)
@@ -134,3 +147,26 @@ pub record IsTextFault (bytes : List ℕ) (number : ℕ) (reason : Why) : Type 0
 abbrev pub IsReadFault : List ℕ → FlowFault → Type 0
 IsReadFault bytes (fault.Line number reason) = IsHeaderFault bytes number reason ⊎ IsTextFault bytes number reason
 IsReadFault bytes fault.NoMemory = Unit {0}
+
+-- what the text of a graph with the same items is read as
+pub record IsRefusedSo (text : List ℕ) (number : ℕ) (reason : Why) (above : Option GraphValue) : Type 0 where
+  pub refused : IsUnreadBy text number reason above
+  pub none_other : IsFirstUnlikeFlow text (judged_lines number reason) None
+
+abbrev pub IsTextReading : List ℕ → FlowReading → Type 0
+IsTextReading text (readings.Flow f) = GraphText text f × AreFlowLines f
+IsTextReading text readings.Header = ⊥
+IsTextReading text (readings.Other number) = IsWordsFault text number why.Syntax ⊎ IsFormFault text number why.Syntax
+IsTextReading text (readings.Refused u) = IsRefusedSo text u.number u.why u.above
+
+-- what the text of this graph is read as
+abbrev pub IsGraphReading : GraphValue → FlowReading → Type 0
+IsGraphReading g (readings.Flow f) = (f ≡ g) × AreFlowLines f
+IsGraphReading g (readings.Other number) = (line : ℕ) × IsFirstOther g line × (number ≡ length g.decls + line + 2)
+IsGraphReading g _ = ⊥
+
+-- what bytes are read as: another first line; or a flow, a line that no flow has, or what refuses the text of a graph with the same items
+abbrev pub IsFlowReading : List ℕ → FlowReading → Type 0
+IsFlowReading bytes readings.Header = HasNoFlowHeader bytes
+IsFlowReading bytes (readings.Flow f) = FlowText bytes f
+IsFlowReading bytes r = (rest : List ℕ) × (bytes ≡ flow_header ++ rest) × IsTextReading (header One ++ rest) r

@@ -1,9 +1,12 @@
 -- What ties the answer for a flow to those who read it.
-use Rattle.std.specs.Prelude.{◌≡◌, ℕ, Bool, List}
+use Rattle.std.specs.Prelude.{◌≡◌, ℕ, ◌+◌, ◌^◌, ◌<◌, Bool, List, length, Option}
 use Rattle.graph_terms.specs.declared.format.Format.{Format}
+use Rattle.graph_terms.specs.declared.why.Why.{Why}
 use Rattle.graph_terms.specs.Graph.{GraphValue, written_in}
 use Rattle.graph_meaning.specs.Rules.{Accepted}
 use Rattle.graph_words.specs.Text.{GraphText}
+use Rattle.graph_reader.specs.FirstFault.{FirstFault}
+use Rattle.graph_reader.specs.Reading.{IsUnreadBy}
 use Rattle.flow_order.specs.Written.{MeansFlow}
 use Rattle.flow_top.specs.FlowText.{FlowText}
 use Rattle.flow_top.specs.Answer.{IsFlowAnswer}
@@ -20,3 +23,11 @@ pub record Answered (bytes : List ℕ) (commute : Bool) (format : Format) (out :
 
 abbrev pub AnswersAreRead : Type 0
 AnswersAreRead = (bytes : List ℕ) (commute : Bool) (format : Format) (out : List ℕ) → IsFlowAnswer bytes commute format out → Answered bytes commute format out
+
+-- the declarations and the lines of a flow's text are so few that the number of each fits
+abbrev pub FewItems : Type 0
+FewItems = (bytes : List ℕ) (f : GraphValue) → FlowText bytes f → length f.decls + length f.lines + 2 < 2 ^ 32
+
+-- bytes that are read as the text of no graph have the line that is told as their first fault
+abbrev pub UnreadHasFault : Type 0
+UnreadHasFault = (bytes : List ℕ) (number : ℕ) (reason : Why) (above : Option GraphValue) → IsUnreadBy bytes number reason above → FirstFault bytes number reason

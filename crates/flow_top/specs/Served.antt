@@ -15,7 +15,7 @@ use Rattle.flow_top.specs.declared.status.FlowStatus.TheVariants.{Done, Unread, 
 -- the exit status of the program
 abbrev pub exit_number : FlowStatus → ℕ
 exit_number Done = 0
-exit_number Unread = 3
+exit_number (Unread number why) = 3
 exit_number ReadFault = 5
 exit_number WriteFault = 6
 exit_number NoMemory = 7
@@ -28,7 +28,7 @@ refused_text number why = codes "refused line " ++ (decimal number ++ (codes " "
 -- the text that goes with a status
 abbrev pub FlowAnswers : List ℕ → Bool → Format → FlowStatus → List ℕ → Type 0
 FlowAnswers bytes commute format Done out = (length bytes ≤ MAX_TEXT) × IsFlowAnswer bytes commute format out
-FlowAnswers bytes commute format Unread out = (length bytes ≤ MAX_TEXT) × (number : ℕ) × (why : Why) × IsAnswerFault bytes commute format (fault.Line number why) × (out ≡ refused_text number why)
+FlowAnswers bytes commute format (Unread number why) out = (length bytes ≤ MAX_TEXT) × IsAnswerFault bytes commute format (fault.Line number why) × (out ≡ refused_text number why)
 FlowAnswers bytes commute format TooLong out = (MAX_TEXT < length bytes) × (out ≡ too_long_text)
 FlowAnswers bytes commute format _ out = ⊥
 

@@ -53,8 +53,8 @@ fn in_format(flow: Graph, format: Format) -> Graph
     }
 }
 
-/// The text of the graph of a flow, in the flow's format.
-fn answer_read(alloc: Global, flow: &Graph, commute: bool) -> Result<Vec<u8>, FlowFault>
+/// The text of the graph of a flow, in the flow's format. `Line` comes where the graph passes a limit, as in `answer_flow`.
+pub fn answer_read(alloc: Global, flow: &Graph, commute: bool) -> Result<Vec<u8>, FlowFault>
     requires flow { IsFlow flow.now }
     requires few { length flow.now.decls + length flow.now.lines + 2 < 2 ^ 32 }
     ensures answer { IfOk result (λ v. AnswersFlow flow.now commute v.items) }

@@ -9,11 +9,12 @@ pub mod status;
 mod unlike_flow;
 mod writing;
 
-pub use answer::answer_flow;
+pub use answer::{answer_flow, answer_read};
 use graph_terms::why::Why;
 use index_spaces::NoMemory;
-pub use reading::read_flow;
+pub use reading::{FlowReading, flow_reading, read_flow};
 pub use serving::serve_flow;
+pub use unlike_flow::{has_event_verb, other_word};
 
 /// Why bytes are no flow's text, or the text of a flow that has no graph.
 #[derive(Clone, Copy, Debug, PartialEq, Eq)]

@@ -65,7 +65,7 @@ fn serve_bytes<K: Sink>(
     match answer_flow(alloc, bytes, commute, format) {
         Ok(text) => put_text(sink, text.as_slice(), FlowStatus::Done),
         Err(FlowFault::Line { number, why }) => match refused_text(alloc, number, why) {
-            Ok(text) => put_text(sink, text.as_bytes(), FlowStatus::Unread),
+            Ok(text) => put_text(sink, text.as_bytes(), FlowStatus::Unread { number, why }),
             Err(NoMemory) => FlowStatus::NoMemory,
         },
         Err(FlowFault::NoMemory) => FlowStatus::NoMemory,

@@ -3,6 +3,7 @@
 ghost use Rattle.std.specs.Prelude.{◌≡◌};
 ghost use Rattle.flow_top.specs.Served.{exit_number};
 
+use graph_terms::why::Why;
 use program_io::ProgramStatus;
 
 /// How the top call ended.
@@ -10,8 +11,8 @@ use program_io::ProgramStatus;
 pub enum FlowStatus {
     /// The text of the graph was written and flushed.
     Done,
-    /// The input is no flow's text, or its graph passes a limit.
-    Unread,
+    /// The input is no flow's text, or its graph passes a limit: this line, counted from 1, is refused for this reason.
+    Unread { number: u32, why: Why },
     /// A read failed.
     ReadFault,
     /// A write or a flush failed.
@@ -29,7 +30,7 @@ impl FlowStatus {
     {
         match self {
             FlowStatus::Done => 0,
-            FlowStatus::Unread => 3,
+            FlowStatus::Unread { .. } => 3,
             FlowStatus::ReadFault => 5,
             FlowStatus::WriteFault => 6,
             FlowStatus::NoMemory => 7,

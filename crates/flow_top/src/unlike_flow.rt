@@ -1,10 +1,10 @@
 //! Words in the form of a line that graphs have and flows have not.
 
 ghost use Rattle.basics.specs.Words.{contents};
-ghost use Rattle.std.specs.Prelude.{◌≡◌, IfOk};
+ghost use Rattle.std.specs.Prelude.{◌≡◌, ◌-◌, IfOk};
 ghost use Rattle.graph_reader.specs.Reading.{is_operation};
 ghost use Rattle.graph_words.specs.Words.{pieces};
-ghost use Rattle.flow_top.specs.FlowText.{is_event_kind, waits, is_merge, is_verb_unlike_flow, is_unlike_flow};
+ghost use Rattle.flow_top.specs.FlowText.{is_event_kind, waits, is_merge, is_event_verb, has_event_verb, is_verb_unlike_flow, is_unlike_flow, other_word};
 
 use graph_terms::format::Format;
 use graph_terms::table::Kind;
@@ -47,6 +47,40 @@ fn is_verb_unlike_flow(words: &[&[u8]]) -> bool
     }
     match kind_of(Format::One, words) {
         Some(kind) => is_event_kind(kind) || waits(kind, words),
+        None => false,
+    }
+}
+
+/// The number, from 0, of the word by which a line of these words has the form of one that no flow has: of its verb, or of `on`.
+pub fn other_word(words: &[&[u8]]) -> usize
+    ensures { result ≡ other_word (contents words.now) }
+{
+    if has_event_verb(words) {
+        return 2;
+    }
+    words.len().saturating_sub(2)
+}
+
+/// Whether the words are those of an operation line with a verb that no flow has.
+pub fn has_event_verb(words: &[&[u8]]) -> bool
+    ensures { result ≡ has_event_verb (contents words.now) }
+{
+    if is_operation(words) {
+        is_event_verb(behind(words, 2))
+    } else {
+        false
+    }
+}
+
+/// Whether the words behind the sign have a verb that no flow has.
+fn is_event_verb(words: &[&[u8]]) -> bool
+    ensures { result ≡ is_event_verb (contents words.now) }
+{
+    if is_merge(words) {
+        return true;
+    }
+    match kind_of(Format::One, words) {
+        Some(kind) => is_event_kind(kind),
         None => false,
     }
 }

@@ -50,6 +50,7 @@ record HasSameTurn (vs ws : List View) : Type 0 where
 shares_on : (g : GraphValue) (c : CoreValue) (vs ws : List View) → Shares g c vs → Follows c g vs ws → Shares g c ws
 shares_on g c vs ws shares f = record {
   graph = shares.graph;
+  unhosted = shares.unhosted;
   each = f.each;
   apart = λ a b u v i eu ev lu lv. (
       let x = f.back a u i eu lu in
@@ -252,6 +253,7 @@ module _ (g : GraphValue) (c c1 : CoreValue) (vs : List View) (id : ℕ) (v : Vi
   given_shares : Shares g c1 (set vs id left)
   given_shares = record {
     graph = serves.graph ∙ shares.graph;
+    unhosted = serves.hosted ∙ shares.unhosted;
     each = λ a u e. elim (at_set vs id a left u e) [
       | inl (here, is) ↦ subst (Fits g c1) is left_fits
       | inr (other, before) ↦ others_fit a u other before
@@ -373,11 +375,12 @@ only_one : (v u : View) (a : ℕ) → get_elem? (v ∷ []) a ≡ some u → (a �
 only_one v u zero e = (refl, some-injective v u e)
 only_one v u (suc a) e = absurd (some-ne-none u (sym e))
 
-pub opens : (c : CoreValue) (g : GraphValue) → c.graph ≡ g → NothingOut c → Guards g (opening (0 ∷ []) (Some c ∷ []) (first_view g))
-opens c g is nothing = (
+pub opens : (c : CoreValue) (g : GraphValue) → c.graph ≡ g → c.hosted ≡ false → NothingOut c → Guards g (opening (0 ∷ []) (Some c ∷ []) (first_view g))
+opens c g is hosted nothing = (
   c,
   record {
     graph = is;
+    unhosted = hosted;
     each = λ a u e. subst (Fits g c) (only_one (first_view g) u a e).1 (fits_nothing g c (first_view g) (λ _. refl) refl refl);
     apart = λ a b u v i eu ev lu lv. absurd (none-some i (ap (λ (y : View). y.line) (only_one (first_view g) u a eu).1 ∙ lu));
     all_out = λ i o. absurd (true≢false (sym o ∙ nothing i));
@@ -413,11 +416,11 @@ module _ (g : GraphValue) (id : ℕ) (v : View) (s : St) (at : get_elem? s.views
 
 -- what the last slot then holds
 abbrev pub Ends : GraphValue → Slot → Type 0
-Ends g slot = (c : CoreValue) × (c.graph ≡ g) × NothingOut c × (slot ≡ Some c)
+Ends g slot = (c : CoreValue) × (c.graph ≡ g) × NothingOut c × (slot ≡ Some c) × (c.hosted ≡ false)
 
 last_slot : (g : GraphValue) (id : ℕ) (v : View) (words : List ℕ) (slots : List Slot) (r : Slot) → v.parts ≡ all_parts → v.line ≡ None → v.has_turn ≡ false → Final (Seen (Guards g) id v) words slots → get_elem? slots 0 ≡ some r → Ends g r
 last_slot g id v words slots r all line turn (s, ((c, shares, inl home), at), is, long, values) there =
-    (c, shares.graph, nothing_out g id v s at all line c shares, some-injective r (Some c) (sym there ∙ values 0 (Some c) (ap (λ hs. get_elem? hs 0) home.homes)))
+    (c, shares.graph, nothing_out g id v s at all line c shares, some-injective r (Some c) (sym there ∙ values 0 (Some c) (ap (λ hs. get_elem? hs 0) home.homes)), shares.unhosted)
 last_slot g id v words slots r all line turn (s, ((c, shares, inr away), at), is, long, values) there = absurd (not_away g id v s at all line c shares turn away)
 
 pub closes : (g : GraphValue) (id : ℕ) (v w : View) (words : List ℕ) (slots : List Slot) (r : Slot) → v ≡ w → w.parts ≡ all_parts → w.line ≡ None → w.has_turn ≡ false → Final (Seen (Guards g) id v) words slots → get_elem? slots 0 ≡ some r → Ends g r

@@ -46,6 +46,7 @@ one_line old new given x y s t = same_line old new given x y (is_taken old new g
 serves_same : (old new : CoreValue) → SameOut old new → ((k : ℕ) → KeepsWork old new k) → Serves old new None None
 serves_same old new same works = record {
   graph = same.graph;
+  hosted = same.hosted;
   «works» = λ k n. works k;
   stays = λ k o. inr (same.same k ∙ o);
   comes = λ k o. inr (sym (same.same k) ∙ o, none-some k);
@@ -56,6 +57,7 @@ serves_same old new same works = record {
 serves_takes : (old new : CoreValue) (i : ℕ) → OneMoreOut old new i → ((k : ℕ) → KeepsWork old new k) → Serves old new None (Some i)
 serves_takes old new i more works = record {
   graph = more.graph;
+  hosted = more.hosted;
   «works» = λ k n. works k;
   stays = λ k o. elim (cases_eq k i) [
     | inl here ↦ absurd (before k here o)
@@ -97,6 +99,7 @@ after_woken old new None some none = none
 serves_put : (old new : CoreValue) (i : ℕ) → OneMoreOut new old i → ((k : ℕ) → k ≢ i → KeepsWork old new k) → Serves old new (Some i) None
 serves_put old new i less works = record {
   graph = sym less.graph;
+  hosted = sym less.hosted;
   «works» = λ k n. works k (λ here. n (ap Some (sym here)));
   stays = λ k o. elim (cases_eq k i) [
     | inl here ↦ inl (ap Some (sym here))

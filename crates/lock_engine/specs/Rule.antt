@@ -31,6 +31,7 @@ pub record Fits (g : GraphValue) (c : CoreValue) (v : View) : Type 0 where
 -- the seats share out the lines of the core c that are out: each is some seat's, and none is two seats'
 pub record Shares (g : GraphValue) (c : CoreValue) (views : List View) : Type 0 where
   pub graph : c.graph ≡ g
+  pub unhosted : c.hosted ≡ false
   pub each : (a : ℕ) (v : View) → get_elem? views a ≡ some v → Fits g c v
   pub apart : (a b : ℕ) (v w : View) (i : ℕ) → get_elem? views a ≡ some v → get_elem? views b ≡ some w → v.line ≡ Some i → w.line ≡ Some i → a ≡ b
   pub all_out : (i : ℕ) → IsOut c i → (a : ℕ) × (v : View) × (get_elem? views a ≡ some v) × (v.line ≡ Some i)

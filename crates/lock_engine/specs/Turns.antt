@@ -49,6 +49,7 @@ IsOut c i = out c.run.stages i ≡ true
 -- one line may be given back to the core, and after it one may be taken. The work of all other lines stays
 pub record Serves (old new : CoreValue) (given taken : Option ℕ) : Type 0 where
   pub graph : new.graph ≡ old.graph
+  pub hosted : new.hosted ≡ old.hosted
   pub works : (k : ℕ) → given ≢ Some k → KeepsWork old new k
   pub stays : (k : ℕ) → IsOut old k → (given ≡ Some k) ⊎ IsOut new k
   pub comes : (k : ℕ) → IsOut new k → (taken ≡ Some k) ⊎ (IsOut old k × (given ≢ Some k))

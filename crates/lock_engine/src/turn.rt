@@ -1,6 +1,6 @@
 //! The turn lock with its core.
 
-ghost use Rattle.std.specs.Prelude.{◌≡◌, ◌≤◌, ◌<◌, ℕ, None, Some, IfOk, length, slice_get};
+ghost use Rattle.std.specs.Prelude.{false, ◌≡◌, ◌≤◌, ◌<◌, ℕ, None, Some, IfOk, length, slice_get};
 ghost use Rattle.graph_meaning.specs.Evaluation.{outcome as evaluated};
 ghost use Rattle.graph_meaning.specs.Trace.{IsLawful, SectionsApart};
 ghost use Rattle.run_core.specs.Finishing.{NothingOut};
@@ -118,6 +118,7 @@ fn last_core<'g>(
     requires idle { (view_of badge).line ≡ None }
     requires all { (view_of badge).parts ≡ all_parts }
     ensures graph { result.graph ≡ table.entry.shared.key }
+    ensures unhosted { result.hosted ≡ false }
     ensures nothing_out { NothingOut result }
 {
     let seat = take_seat(badge);

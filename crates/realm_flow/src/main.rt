@@ -18,7 +18,7 @@ const GATHERED: usize = 65_536;
 /// The exit status for words that the program doesn't take.
 const USAGE: u8 = 2;
 
-/// The line for the standard error, where the standard output has no text for this status.
+/// The line for the standard error, where the standard output has no text for this status, or one that a pipe hides.
 fn message(status: FlowStatus) -> Option<&'static str>
     ensures { is_some result ≡ has_message status }
 {
@@ -26,7 +26,8 @@ fn message(status: FlowStatus) -> Option<&'static str>
         FlowStatus::ReadFault => Some("realm-flow: the standard input can't be read"),
         FlowStatus::WriteFault => Some("realm-flow: the standard output can't be written"),
         FlowStatus::NoMemory => Some("realm-flow: out of memory"),
-        FlowStatus::Done | FlowStatus::Unread | FlowStatus::TooLong => None,
+        FlowStatus::TooLong => Some("realm-flow: the input is too long"),
+        FlowStatus::Done | FlowStatus::Unread { .. } => None,
     }
 }
 
@@ -132,6 +133,19 @@ fn run<R: AllocGlobal + Input + Print>(rt: &R, asked: Asked) -> FlowStatus {
     )
 }
 
+/// Says on the standard error what the standard output does not, and of a refused flow what it says too: behind a pipe it is not seen.
+fn say<R: Eprint>(rt: &R, status: FlowStatus) {
+    if let FlowStatus::Unread { number, why } = status {
+        let word = why.word();
+        let _ = rt.eprintln(format_args!(
+            "realm-flow: refused line {number} {word}; realm-explain tells why"
+        ));
+    }
+    if let Some(line) = message(status) {
+        let _ = rt.eprintln(line);
+    }
+}
+
 fn main(rt: HostRuntime) -> ExitCode {
     let status = match asked_by_words(&rt) {
         Ok(asked) => run(&rt, asked),
@@ -141,8 +155,6 @@ fn main(rt: HostRuntime) -> ExitCode {
             return ExitCode::from(USAGE);
         }
     };
-    if let Some(line) = message(status) {
-        let _ = rt.eprintln(line);
-    }
+    say(&rt, status);
     ExitCode::from(status.number())
 }

@@ -1,6 +1,6 @@
 //! A run that goes on.
 
-ghost use Rattle.std.specs.Prelude.{◌≡◌, ◌≤◌, ◌↔◌, IfSome};
+ghost use Rattle.std.specs.Prelude.{◌≡◌, ◌≤◌, ◌↔◌, false, IfSome};
 ghost use Rattle.run_core.specs.Core.{slots_given, unissued};
 ghost use Rattle.run_core.specs.Finishing.{NothingOut};
 ghost use Rattle.run_core.specs.Resting.{core_by, RestsBy};
@@ -25,13 +25,17 @@ pub struct Run {
 impl Model for Run {
     ghost use Rattle.std.specs.Arc.{arc_value};
     ghost use Rattle.run_core.specs.Core.{CoreValue};
+    ghost use Rattle.std.specs.Prelude.{◌≡◌, false};
     ghost use Rattle.run_core.specs.Resting.{core_by, RestsBy};
 
     ghost Value = { CoreValue };
 
     ghost view = { λ a. core_by (arc_value a.graph).graph a.core };
 
-    ghost invariant = { λ a. RestsBy (arc_value a.graph).graph a.core };
+    ghost invariant = { λ a. record {
+      rests : RestsBy (arc_value a.graph).graph a.core;
+      unhosted : a.core.hosted ≡ false;
+    } };
 }
 
 /// How many lines of a run have come how far.
@@ -205,6 +209,7 @@ fn prepare(alloc: Global, checked: &Checked, slots: u32) -> Option<Resting>
     ensures core { IfSome result (λ r. core_by checked.now.graph r ≡ unissued checked.now.graph slots) }
     ensures slots { IfSome result (λ r. slots_given (core_by checked.now.graph r) ≡ slots) }
     ensures nothing_out { IfSome result (λ r. NothingOut (core_by checked.now.graph r)) }
+    ensures unhosted { IfSome result (λ r. r.hosted ≡ false) }
 {
     match Core::prepare(alloc, checked, slots) {
         Ok(core) => Some(core.rest()),

@@ -3,7 +3,8 @@ use Rattle.std.proofs.Common.{Bool, ◌≡◌, ℕ, ◌+◌, ◌<◌, ◌≤◌,
 use Rattle.std.specs.Prelude.{◌≢◌, Option, Some, None, IsSome, slice_get, slice_index, slice_index_or, slice_set}
 use Rattle.std.specs.Option.{option_map_or}
 use Rattle.std.proofs.lemmas.Bool.{true≢false, false≢true, eq-eqb}
-use Rattle.std.proofs.lemmas.List.{map-set, set-set}
+use Rattle.std.proofs.lemmas.List.{map-set, set-set, get_or-set_same, get_or-set_other}
+use Rattle.std.proofs.lemmas.List.FromFn.{length-map-range_with_len}
 use Rattle.std.proofs.lemmas.Option.{none-some, same_Some, slice_get-get_or}
 use Rattle.index_spaces.specs.Column.{ColumnValue}
 use Rattle.graph_terms.specs.declared.outcome.End.{End}
@@ -12,65 +13,73 @@ use Rattle.graph_terms.specs.declared.verb.Verb.{Verb}
 use Rattle.graph_terms.specs.declared.verb.Verb.TheVariants.{Release}
 use Rattle.graph_terms.specs.Graph.{GraphValue, columns, column_space, verb_at, is_release_of}
 use Rattle.graph_terms.specs.Reservations.{Releases}
-use Rattle.graph_meaning.specs.Evaluation.{is_ended, evaluation, eval_end}
+use Rattle.graph_meaning.specs.Effect.{Effects, zero_cells}
+use Rattle.graph_meaning.specs.Evaluation.{is_ended, end_with}
 use Rattle.basics.proofs.ListFacts.{count_below-max, fewer_below}
 use Rattle.basics.specs.Lists.{count_below}
-use Rattle.graph_meaning.proofs.Public.{end_in_ended, steps_end}
 use Rattle.index_spaces.specs.Held.{held_at}
 use Rattle.event_table.specs.declared.handle.Handle.{Handle}
 use Rattle.event_table.specs.EventMap.{answer, answer_of, ended_with}
-use Rattle.run_state.specs.Run.{LineStage, Ending, Ended, Place, Home, Had, Run, is_listed, stage_at, place_at, list_at, end_so_far, stage_out, stage_started, stage_over, started, timed}
-use Rattle.run_state.specs.Sound.{AccessesColumn, Sound}
+use Rattle.run_state.specs.Run.{LineStage, Unissued, Ending, Ended, Place, Home, Had, Run, is_listed, stage_at, place_at, list_at, end_so_far, stage_issued, stage_out, stage_started, stage_over, stage_ended, started, ended, time_at, timed}
+use Rattle.run_state.specs.Sound.{AccessesColumn, SoundWith}
 use Rattle.run_state.specs.WholeLine.{lock_of, all_home, all_back, columns_for, values_with, arrived_with, arrival_for, holders_without, freed_with, freed_lock, frees_by, frees_for, put_back_whole}
 use Rattle.run_state.specs.Laws.{PutBackKeepsRest, PutBackLeaves}
-use Rattle.run_state.proofs.Public.{ended_over, started_below, started_ends, kept_is, column_there}
-use Rattle.graph_terms.proofs.Public.{verb_passes, one_release}
+use Rattle.run_state.proofs.Public.{ended_over, started_below_with, ended_in_evaluation, column_there}
+use Rattle.graph_terms.proofs.Public.{verb_passes, passes_below, one_release}
 use Rattle.run_state.proofs.PutBack.{acquire_is_ended, frees_found}
-use Rattle.run_core.specs.Core.{CoreValue, IsCore}
+use Rattle.run_core.specs.Core.{CoreValue, IsCoreWith, IsCore, kept_faults}
 use Rattle.run_core.specs.Events.{EventsValue}
 use Rattle.run_core.specs.Works.{FinishedValue, IsFinished, KeepsWork, cells_in}
 use Rattle.run_core.specs.Steps.{with_end, handle_at, fate_for}
 use Rattle.run_core.specs.Holders.{holders_by}
-use Rattle.run_core.specs.Kept.{shown_stage, place_of, places_of, Past, no_past, with_line, past_of, frees_as, frees_so_far, frees_in, frees, run_by, shown_core, AreKept}
+use Rattle.run_core.specs.Kept.{shown_stage, place_of, places_of, Past, no_past, with_line, past_of, ends_so_far, frees_as, frees_in, frees, run_by, shown_core, AreKept}
 use Rattle.run_parts.specs.declared.progress.Progress.{Progress}
 use Rattle.run_parts.specs.declared.progress.Progress.TheVariants as progress
-use Rattle.run_core.proofs.PastFacts.{past_more, clock_from}
+use Rattle.run_core.proofs.PastFacts.{past_more, past_same, clock_from}
+use Rattle.run_core.proofs.PastLists.{times_new}
+use Rattle.run_state.specs.Verdicts.{effect_by}
+use Rattle.basics.proofs.Choices.{is_some_of}
 use Rattle.run_core.proofs.PlaceFacts.{place_is}
-use Rattle.run_core.proofs.CoreFacts.{may_put, core_ended}
+use Rattle.run_core.proofs.CoreFacts.{may_put, core_ended, kept_core, kept_finished, may_before, line_near, core_with}
 use Rattle.run_core.proofs.WorkFacts.{core_of, keeps_work}
 
--- WHAT A LINE FREES: by the ends that are kept, and by those of the evaluation
-frees_same : (g : GraphValue) (run : Run) (v : Verb) → frees_by g run v ≡ frees_so_far g run.stages v
+-- WHAT A LINE FREES, by the ends that are kept
+frees_same : (g : GraphValue) (run : Run) (v : Verb) → frees_by g run v ≡ frees_as g (ends_so_far run.stages) v
 frees_same g run (Release q) = refl
 frees_same g run _ = refl
 
 pub frees_kept : (g : GraphValue) (run : Run) (i : ℕ) → frees_for g run i ≡ frees_in g run.stages i
 frees_kept g run i = by_option (verb_at g i)
   where
-    by_option : (o : Option Verb) → option_map_or (frees_by g run) o None ≡ option_map_or (frees_so_far g run.stages) o None
+    by_option : (o : Option Verb) → option_map_or (frees_by g run) o None ≡ option_map_or (frees_as g (ends_so_far run.stages)) o None
     by_option None = refl
     by_option (Some v) = frees_same g run v
 
-frees_agree : (g : GraphValue) (run : Run) (v : Verb) → ((q : ℕ) → v ≡ Release q → end_so_far (stage_at run.stages q) ≡ eval_end g q) → frees_as g v ≡ frees_by g run v
-frees_agree g run (Release q) h = ap (λ x. freed_lock q x (lock_of g q)) (sym (h q refl))
-frees_agree g run _ h = refl
+-- ends that agree on what a line releases free the same
+frees_agree : (g : GraphValue) (a b : ℕ → End) (v : Verb) → ((q : ℕ) → v ≡ Release q → a q ≡ b q) → frees_as g a v ≡ frees_as g b v
+frees_agree g a b (Release q) h = ap (λ x. freed_lock q x (lock_of g q)) (h q refl)
+frees_agree g a b _ h = refl
 
-pub frees_evaluated : {g : GraphValue} {run : Run} → Sound g run → (i : ℕ) → started run.stages i ≡ true → frees g i ≡ frees_for g run i
-frees_evaluated {g} {run} s i begun = by_option (verb_at g i) refl
+pub frees_where : (g : GraphValue) (a b : ℕ → End) (i : ℕ) → ((q : ℕ) → Releases g i q → a q ≡ b q) → frees g a i ≡ frees g b i
+frees_where g a b i h = by_option (verb_at g i) refl
   where
-    by_option : (o : Option Verb) → verb_at g i ≡ o → option_map_or (frees_as g) o None ≡ option_map_or (frees_by g run) o None
+    by_option : (o : Option Verb) → verb_at g i ≡ o → option_map_or (frees_as g a) o None ≡ option_map_or (frees_as g b) o None
     by_option None e = refl
-    by_option (Some v) e = frees_agree g run v (λ q is.
-        let rel : Releases g i q = verb_passes (is_release_of q) g i (Release q) (e ∙ ap Some is) ∙ eq-eqb q q refl in
-        kept_is s.on_lines q (ended_over (stage_at run.stages q) (acquire_is_ended s i q rel begun)))
+    by_option (Some v) e = frees_agree g a b v (λ q is. h q (verb_passes (is_release_of q) g i (Release q) (e ∙ ap Some is) ∙ eq-eqb q q refl))
+
+-- a line of the trace has a time, so it is not one that is out, and releases none that is
+in_trace_timed : (g : GraphValue) (ends : ℕ → End) (trace : List ℕ) (k : ℕ) → k < length g.lines → is_listed trace k ≡ true → (t : ℕ) × (time_at (past_of g ends trace).times k ≡ Some t)
+in_trace_timed g ends trace k near h = times_new g ends (no_past g) trace k (subst (λ n. k < n) (sym (length-map-range_with_len {X = Option ℕ} (λ i. None) 0 (length g.lines))) near) h
 
 -- WHO HOLDS the reservation that is freed
 pub holder_freed : (before : CoreValue) → IsCore before → (f : FinishedValue) → IsFinished before f → (l q : ℕ) → frees_in before.graph before.run.stages f.line ≡ Some (l, q) → is_listed (list_at before.run.holders l) q ≡ true
-holder_freed before core f is l q frees =
-    let s = core.sound in
-    let found = frees_found before.graph before.run s core.at_rest f.line f.ends (cells_in f.held) (may_put before f is) (l, q) (frees_kept before.graph before.run f.line ∙ frees) in
+holder_freed before core f finished l q frees =
+    let some = kept_finished before f finished in
+    let is = some.2 in
+    let s = (core_with before core some.0 some.1).sound in
+    let found = frees_found before.graph before.run s (core_with before core some.0 some.1).at_rest f.line f.ends (cells_in f.held) (may_put before f is) (l, q) (frees_kept before.graph before.run f.line ∙ frees) in
     let over_q = ended_over (stage_at before.run.stages q) found.2 in
-    elim (s.on_locks.timed_holds l q found.1 (s.on_times.over_timed q over_q) (λ e. done_apart (eval_end before.graph q) found.3 e)) [
+    elim (s.on_locks.timed_holds l q found.1 (s.on_times.over_timed q over_q) (λ e. done_apart (end_with (effect_by some.0 before.graph) zero_cells before.graph q) found.3 e)) [
       | inl held ↦ held
       | inr freed ↦ absurd (true≢false (sym (s.on_locks.freed_over f.line (subst (λ r. is_listed before.run.freed r ≡ true) (one_release before.graph s.graph q freed.0 f.line freed.1 found.0) freed.2)) ∙ ap stage_over is.is_out))
     ]
@@ -79,35 +88,29 @@ holder_freed before core f is l q frees =
     done_apart x a b = cc
 
 -- THE WHOLE STEP, as it is shown
-past_with : (g : GraphValue) (past : Past) (i : ℕ) (x : End) (o : Option (ℕ × ℕ)) → eval_end g i ≡ x → frees g i ≡ o → with_line g past i ≡ record {
+past_with : (g : GraphValue) (ends : ℕ → End) (past : Past) (i : ℕ) (x : End) (o : Option (ℕ × ℕ)) → ends i ≡ x → frees g ends i ≡ o → with_line g ends past i ≡ record {
   times = slice_set past.times i (Some past.clock);
   clock = past.clock + 1;
   back = all_back past.back i (columns_for g i x);
   arrived = arrived_with past.arrived i (arrival_for g i x);
   freed = freed_with past.freed i o;
 }
-past_with g past i x o e f = ap (λ y. record {
+past_with g ends past i x o e f = λ t. record {
   times = slice_set past.times i (Some past.clock);
   clock = past.clock + 1;
-  back = all_back past.back i (columns_for g i y);
-  arrived = arrived_with past.arrived i (arrival_for g i y);
-  freed = freed_with past.freed i (frees g i);
-}) e ∙ ap (λ y. record {
-  times = slice_set past.times i (Some past.clock);
-  clock = past.clock + 1;
-  back = all_back past.back i (columns_for g i x);
-  arrived = arrived_with past.arrived i (arrival_for g i x);
-  freed = freed_with past.freed i y;
-}) f
+  back = all_back past.back i (columns_for g i (e t));
+  arrived = arrived_with past.arrived i (arrival_for g i (e t));
+  freed = freed_with past.freed i (f t);
+}
 
-module _ (g : GraphValue) (stages : List Progress) (events : EventsValue) (homes homes' : List (Option ColumnValue)) (takers takers' values values' : List ℕ) (marks marks' : List Bool) (trace : List ℕ)
-    (f : FinishedValue) (core : IsCore (shown_core g stages events homes takers values marks trace)) (is : IsFinished (shown_core g stages events homes takers values marks trace) f)
+module _ (hosted : Bool) (g : GraphValue) (stages : List Progress) (events : EventsValue) (homes homes' : List (Option ColumnValue)) (takers takers' values values' : List ℕ) (marks marks' : List Bool) (trace : List ℕ)
+    (f : FinishedValue) (core : IsCore (shown_core hosted g stages events homes takers values marks trace)) (is : IsFinished (shown_core hosted g stages events homes takers values marks trace) f)
     (places : places_of homes' takers' ≡ all_home (places_of homes takers) (cells_in f.held) (columns_for g f.line f.ends))
     (arrives : values' ≡ values_with values (arrival_for g f.line f.ends))
     (frees_now : holders_by g marks' ≡ holders_without (holders_by g marks) (frees_in g (map shown_stage stages) f.line))
   where
     abbrev shown_before : CoreValue
-    shown_before = shown_core g stages events homes takers values marks trace
+    shown_before = shown_core hosted g stages events homes takers values marks trace
 
     freed_is : frees_for g shown_before.run f.line ≡ frees_in g (map shown_stage stages) f.line
     freed_is = frees_kept g shown_before.run f.line
@@ -115,14 +118,56 @@ module _ (g : GraphValue) (stages : List Progress) (events : EventsValue) (homes
     begun : started shown_before.run.stages f.line ≡ true
     begun = ap stage_started is.is_out
 
-    past_is : past_of g (trace ++ f.line ∷ []) ≡ record {
-      times = slice_set (past_of g trace).times f.line (Some (past_of g trace).clock);
-      clock = (past_of g trace).clock + 1;
-      back = all_back (past_of g trace).back f.line (columns_for g f.line f.ends);
-      arrived = arrived_with (past_of g trace).arrived f.line (arrival_for g f.line f.ends);
-      freed = freed_with (past_of g trace).freed f.line (frees_for g shown_before.run f.line);
+    -- the ends before and after: no other line's changes
+    abbrev ends_before : ℕ → End
+    ends_before = ends_so_far (map shown_stage stages)
+
+    abbrev ends_after : ℕ → End
+    ends_after = ends_so_far (map shown_stage (slice_set stages f.line (progress.Ended f.ends)))
+
+    abbrev known : IsCoreWith (effect_by (kept_faults shown_before) g) shown_before
+    known = kept_core shown_before core
+
+    ends_else : (k : ℕ) → (k ≡ f.line → ⊥) → ends_before k ≡ ends_after k
+    ends_else k other = sym (ap (λ ss. ends_so_far ss k) (map-set shown_stage stages f.line (progress.Ended f.ends)) ∙ ap end_so_far (get_or-set_other (map shown_stage stages) f.line k (Ended f.ends) Unissued other))
+
+    ends_here : ends_after f.line ≡ f.ends
+    ends_here = ap (λ ss. ends_so_far ss f.line) (map-set shown_stage stages f.line (progress.Ended f.ends))
+        ∙ ap end_so_far (get_or-set_same (map shown_stage stages) f.line (Ended f.ends) Unissued (line_near shown_before core f.line (ap stage_issued is.is_out)))
+
+    -- the line is out: a line that is ended, as an acquire whose release was taken, is another
+    ended_else : (q : ℕ) → ended shown_before.run.stages q ≡ true → q ≡ f.line → ⊥
+    ended_else q e same = true≢false (sym e ∙ (ap (ended shown_before.run.stages) same ∙ ap stage_ended is.is_out))
+
+    releases_else : (k q : ℕ) → started shown_before.run.stages k ≡ true → Releases g k q → ends_before q ≡ ends_after q
+    releases_else k q h rel = ends_else q (ended_else q (acquire_is_ended known.sound k q rel h))
+
+    traced_else : (k : ℕ) → is_listed trace k ≡ true → k ≡ f.line → ⊥
+    traced_else k h same =
+        let below : f.line < length g.lines = started_below_with known.sound.on_lines f.line begun in
+        let t = in_trace_timed g ends_before trace f.line below (ap (is_listed trace) (sym same) ∙ h) in
+        true≢false (sym (is_some_of (time_at shown_before.run.times f.line) t.0 t.1) ∙ known.at_rest.out_untimed f.line (ap stage_out is.is_out))
+
+    traced_frees : (k : ℕ) → is_listed trace k ≡ true → (q : ℕ) → Releases g k q → ends_before q ≡ ends_after q
+    traced_frees k h q rel =
+        let t = in_trace_timed g ends_before trace k (passes_below (is_release_of q) g k rel) h in
+        releases_else k q (known.sound.on_times.timed_started k (is_some_of (time_at shown_before.run.times k) t.0 t.1)) rel
+
+    past_before : past_of g ends_after trace ≡ past_of g ends_before trace
+    past_before = sym (past_same g ends_before ends_after (no_past g) trace (λ k h. (ends_else k (traced_else k h), frees_where g ends_before ends_after k (traced_frees k h))))
+
+    freed_after : frees g ends_after f.line ≡ frees_for g shown_before.run f.line
+    freed_after = sym (frees_where g ends_before ends_after f.line (λ q rel. releases_else f.line q begun rel)) ∙ sym freed_is
+
+    past_is : past_of g ends_after (trace ++ f.line ∷ []) ≡ record {
+      times = slice_set (past_of g ends_before trace).times f.line (Some (past_of g ends_before trace).clock);
+      clock = (past_of g ends_before trace).clock + 1;
+      back = all_back (past_of g ends_before trace).back f.line (columns_for g f.line f.ends);
+      arrived = arrived_with (past_of g ends_before trace).arrived f.line (arrival_for g f.line f.ends);
+      freed = freed_with (past_of g ends_before trace).freed f.line (frees_for g shown_before.run f.line);
     }
-    past_is = past_more g _ trace f.line ∙ past_with g (past_of g trace) f.line f.ends (frees_for g shown_before.run f.line) is.is_end (frees_evaluated core.sound f.line begun)
+    past_is = past_more g ends_after (no_past g) trace f.line ∙ (ap (λ p. with_line g ends_after p f.line) past_before
+        ∙ past_with g ends_after (past_of g ends_before trace) f.line f.ends (frees_for g shown_before.run f.line) ends_here freed_after)
 
     stages_are : map shown_stage (slice_set stages f.line (progress.Ended f.ends)) ≡ slice_set (slice_set (map shown_stage stages) f.line (Ending f.ends)) f.line (Ended f.ends)
     stages_are = map-set shown_stage stages f.line (progress.Ended f.ends) ∙ sym (set-set (map shown_stage stages) f.line (Ending f.ends) (Ended f.ends))
@@ -131,11 +176,11 @@ module _ (g : GraphValue) (stages : List Progress) (events : EventsValue) (homes
     holders_are = frees_now ∙ ap (holders_without (holders_by g marks)) (sym freed_is)
 
     pub ended_shown : (events' : EventsValue) → events' ≡ record { handles = events.handles; table = ended_with events.table (handle_at shown_before f.line) (fate_for f.ends) } →
-        shown_core g (slice_set stages f.line (progress.Ended f.ends)) events' homes' takers' values' marks' (trace ++ f.line ∷ []) ≡ with_end shown_before f
+        shown_core hosted g (slice_set stages f.line (progress.Ended f.ends)) events' homes' takers' values' marks' (trace ++ f.line ∷ []) ≡ with_end shown_before f
     ended_shown events' e =
-        ap (λ (ev : EventsValue). core_of g (run_by (past_of g (trace ++ f.line ∷ [])) (map shown_stage (slice_set stages f.line (progress.Ended f.ends))) (places_of homes' takers') values' (holders_by g marks')) ev.handles ev.table) e
-        ∙ (ap (λ p. core_of g (run_by p (map shown_stage (slice_set stages f.line (progress.Ended f.ends))) (places_of homes' takers') values' (holders_by g marks')) events.handles (ended_with events.table (handle_at shown_before f.line) (fate_for f.ends))) past_is
-        ∙ ap (λ (r : List LineStage × List Place × List ℕ × List (List ℕ)). core_of g (run_by (past_after shown_before) r.0 r.1 r.2 r.3) events.handles (ended_with events.table (handle_at shown_before f.line) (fate_for f.ends)))
+        ap (λ (ev : EventsValue). core_of hosted g (run_by (past_of g ends_after (trace ++ f.line ∷ [])) (map shown_stage (slice_set stages f.line (progress.Ended f.ends))) (places_of homes' takers') values' (holders_by g marks')) ev.handles ev.table) e
+        ∙ (ap (λ p. core_of hosted g (run_by p (map shown_stage (slice_set stages f.line (progress.Ended f.ends))) (places_of homes' takers') values' (holders_by g marks')) events.handles (ended_with events.table (handle_at shown_before f.line) (fate_for f.ends))) past_is
+        ∙ ap (λ (r : List LineStage × List Place × List ℕ × List (List ℕ)). core_of hosted g (run_by (past_after shown_before) r.0 r.1 r.2 r.3) events.handles (ended_with events.table (handle_at shown_before f.line) (fate_for f.ends)))
         (λ t. (stages_are t, places t, arrives t, holders_are t)))
       where
         past_after : CoreValue → Past
@@ -148,8 +193,8 @@ module _ (g : GraphValue) (stages : List Progress) (events : EventsValue) (homes
         }
 
 -- A LINE THAT IS OUT ends, has its columns out, and has no time yet
-not_waiting : (g : GraphValue) (run : Run) → Sound g run → (i : ℕ) → started run.stages i ≡ true → eval_end g i ≡ Waiting → ⊥
-not_waiting g run s i begun e = false≢true (ap is_ended (sym e) ∙ end_in_ended (evaluation g) i (steps_end g _) (started_ends s.graph s.accepted s.on_lines i begun))
+not_waiting : {does : Effects} (g : GraphValue) (run : Run) → SoundWith does g run → (i : ℕ) → started run.stages i ≡ true → end_with does zero_cells g i ≡ Waiting → ⊥
+not_waiting {does} g run s i begun e = false≢true (ap is_ended (sym e) ∙ ended_in_evaluation s i begun)
 
 none_by_place : (o : Option ColumnValue) (t k : ℕ) → place_of o t ≡ Had k → o ≡ None
 none_by_place None t k e = refl
@@ -160,21 +205,25 @@ none_by_place (Some x) t k e = absurd (home_not_had x.cells k e)
 
 pub column_is_out : (before : CoreValue) (homes : List (Option ColumnValue)) (takers : List ℕ) → before.run.places ≡ places_of homes takers → IsCore before → AreKept before.graph homes takers → (f : FinishedValue) → IsFinished before f → f.ends ≢ Cancelled →
     (k : ℕ) → AccessesColumn before.graph f.line k → slice_get homes k ≡ Some None
-column_is_out before homes takers shows core kept f is runs k a =
+column_is_out before homes takers shows core kept f finished runs k a =
+    let some = kept_finished before f finished in
+    let is = some.2 in
+    let core = core_with before core some.0 some.1 in
     let near : k < length homes = subst (λ n. k < n) (sym kept.each_home) (column_there core.sound.graph f.line k a) in
     let had : place_at before.run.places k ≡ Had f.line = core.at_rest.out_has f.line k (ap stage_out is.is_out) (λ e. runs (sym is.is_end ∙ e)) a in
     slice_get-get_or homes k None near ∙ ap Some (none_by_place (slice_index_or homes k None) (slice_index takers k) f.line (sym (place_is homes takers k (kept.each_home ∙ sym kept.each_taker) near) ∙ (ap (λ ps. place_at ps k) (sym shows) ∙ had)))
 
 pub column_is_held : (before : CoreValue) (f : FinishedValue) → IsFinished before f → f.ends ≢ Cancelled → (k : ℕ) → AccessesColumn before.graph f.line k → IsSome (held_at f.held k)
-column_is_held before f is runs k a = subst IsSome (sym ((is.holds runs).has k a)) refl
+column_is_held before f is runs k a = subst IsSome (sym (((kept_finished before f is).2.holds runs).has k a)) refl
 
 -- there is room in the trace for one line more
-pub trace_is_short : (before : CoreValue) (trace : List ℕ) → before.run.clock ≡ (past_of before.graph trace).clock → IsCore before → (f : FinishedValue) → IsFinished before f → length trace < length before.graph.lines
-trace_is_short before trace shows core f is =
+pub trace_is_short : (before : CoreValue) (trace : List ℕ) → before.run.clock ≡ (past_of before.graph (ends_so_far before.run.stages) trace).clock → IsCore before → (f : FinishedValue) → IsFinished before f → length trace < length before.graph.lines
+trace_is_short before trace shows is_core f is =
+    let core = kept_core before is_core in
     let s = core.sound in
-    let clock : (past_of before.graph trace).clock ≡ 0 + length trace = clock_from before.graph (no_past before.graph) trace in
+    let clock : (past_of before.graph (ends_so_far before.run.stages) trace).clock ≡ 0 + length trace = clock_from before.graph (ends_so_far before.run.stages) (no_past before.graph) trace in
     let counts : before.run.clock ≡ count_below (timed before.run.times) (length before.graph.lines) = s.on_times.clock_counts in
-    let below : f.line < length before.graph.lines = started_below s.on_lines f.line (ap stage_started is.is_out) in
+    let below : f.line < length before.graph.lines = started_below_with s.on_lines f.line (ap stage_started is.is_out) in
     let fewer : count_below (timed before.run.times) (length before.graph.lines) + 1 ≤ count_below (λ k. true) (length before.graph.lines) =
     fewer_below (timed before.run.times) (λ k. true) (λ k h. refl) (length before.graph.lines) f.line below (core.at_rest.out_untimed f.line (ap stage_out is.is_out)) refl in
     let most : count_below (λ k. true) (length before.graph.lines) ≤ length before.graph.lines = count_below-max (λ k. true) (length before.graph.lines) in
@@ -191,11 +240,11 @@ ended_kept h before e homes takers homes' takers' kept f is long wide same = rec
   where
     of_line : f.ends ≢ Cancelled → (k : ℕ) (x : ColumnValue) → held_at f.held k ≡ Some x → x.space ≡ column_space before.graph k
     of_line runs k x at =
-        let holds = is.holds runs in
+        let holds = (kept_finished before f is).2.holds runs in
         ap (λ (y : ColumnValue). y.space) (same_Some x _ (sym at ∙ holds.has k (holds.only k x at)))
 
     by_end : (x : End) → f.ends ≡ x → (k : ℕ) (y : ColumnValue) → held_at f.held k ≡ Some y → y.space ≡ column_space before.graph k
-    by_end Cancelled e k y at = absurd (none-some y (sym (is.nothing e k) ∙ at))
+    by_end Cancelled e k y at = absurd (none-some y (sym ((kept_finished before f is).2.nothing e k) ∙ at))
     by_end Done e k y at = of_line (λ c. (let d : Done ≡ Cancelled = sym e ∙ c in cc)) k y at
     by_end Faulted e k y at = of_line (λ c. (let d : Faulted ≡ Cancelled = sym e ∙ c in cc)) k y at
     by_end Waiting e k y at = of_line (λ c. (let d : Waiting ≡ Cancelled = sym e ∙ c in cc)) k y at
@@ -213,13 +262,16 @@ finished_is before now f r same e is = subst (λ (c : CoreValue). IsFinished c (
 pub ended_core : PutBackKeepsRest → (before after : CoreValue) (f : FinishedValue) → after ≡ with_end before f → IsCore before → IsFinished before f →
     answer (with_end before f).table (handle_at before f.line) ≡ Some (answer_of (fate_for f.ends)) → ((k : Handle) → k ≢ handle_at before f.line → answer (with_end before f).table k ≡ answer before.table k) → IsCore after
 ended_core law before after f eq core is here others =
-    subst IsCore (sym eq) (core_ended law before core f is (λ e. not_waiting before.graph before.run core.sound f.line (ap stage_started is.is_out) (is.is_end ∙ e)) here others)
+    let some = kept_finished before f is in
+    subst IsCore (sym eq) (core_ended law before core f is (λ e. not_waiting before.graph before.run (core_with before core some.0 some.1).sound f.line (ap stage_started is.is_out) (some.2.is_end ∙ e)) here others)
 
 pub ended_is : (before now after : CoreValue) (f f' : FinishedValue) → before ≡ now → f ≡ f' → after ≡ with_end before f → after ≡ with_end now f'
 ended_is before now after f f' same e eq = eq ∙ (ap (λ c. with_end c f) same ∙ ap (with_end now) e)
 
 pub ended_works : PutBackLeaves → (before now after : CoreValue) (f f' : FinishedValue) → before ≡ now → f ≡ f' → after ≡ with_end before f → IsCore before → IsFinished before f → (k : ℕ) → k ≢ f'.line → KeepsWork now after k
 ended_works law before now after f f' same e eq core is k ne =
+    let some = kept_finished before f is in
     subst (λ (v : CoreValue). KeepsWork v after k) same (subst (λ (v : CoreValue). KeepsWork before v k) (sym eq)
     (keeps_work before core (put_back_whole before.graph before.run f.line f.ends (cells_in f.held)) before.handles (ended_with before.table (handle_at before f.line) (fate_for f.ends)) k
-    (λ _. law before.graph before.run k f.line f.ends (cells_in f.held) (λ q. ne (q ∙ ap (λ (x : FinishedValue). x.line) e)) core.at_rest (may_put before f is))))
+    (may_before before (with_end before f) f.line (Ended f.ends) refl refl (set-set before.run.stages f.line (Ending f.ends) (Ended f.ends)) (ap end_so_far is.is_out))
+    (λ _. law (effect_by some.0 before.graph) before.graph before.run k f.line f.ends (cells_in f.held) (λ q. ne (q ∙ ap (λ (x : FinishedValue). x.line) e)) (core_with before core some.0 some.1).at_rest (may_put before f some.2))))

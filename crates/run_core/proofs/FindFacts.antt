@@ -1,13 +1,9 @@
 -- What is found of a line says what the definitions say.
 use Rattle.std.proofs.Common.{◌≡◌, ℕ, zero, suc, ◌<◌, true, false, List, [], ◌∷◌, map, length, refl, sym, ◌∙◌, ap, subst, arith}
-use Rattle.std.specs.Prelude.{◌≢◌, Bool, slice_index_or}
-use Rattle.std.proofs.lemmas.Bool.{true≢false}
+use Rattle.std.specs.Prelude.{◌≢◌, slice_index_or}
 use Rattle.std.proofs.lemmas.List.{length-map}
-use Rattle.graph_terms.specs.declared.outcome.End.TheVariants.{Cancelled}
 use Rattle.graph_terms.specs.Graph.{GraphValue, never_comes}
-use Rattle.graph_meaning.specs.Evaluation.{eval_end}
 use Rattle.run_state.specs.Run.{Issued, stage_at}
-use Rattle.run_state.specs.Laws.{CancelledByKeptEnds}
 use Rattle.run_state.specs.Quiet.{kept_cancels}
 use Rattle.run_core.specs.Core.{CoreValue, IsCore}
 use Rattle.run_core.specs.Steps.{HasSources, IsDue, HasLock, HasColumns, IsHeldBy}
@@ -17,7 +13,7 @@ use Rattle.run_parts.specs.declared.answers.Thing.{Thing}
 use Rattle.run_core.specs.declared.run.attempt.Finding.TheVariants as finding
 use Rattle.run_parts.specs.declared.progress.Progress.{Progress}
 use Rattle.run_parts.specs.declared.progress.Progress.TheVariants as progress
-use Rattle.run_core.proofs.CoreFacts.{sources_of}
+use Rattle.run_core.proofs.CoreFacts.{kept_core}
 
 -- the stage of a line that the code keeps
 pub stage_shown : (stages : List Progress) (i : ℕ) (d : Progress) → i < length stages → stage_at (map shown_stage stages) i ≡ shown_stage (slice_index_or stages i d)
@@ -37,20 +33,8 @@ not_issued stages i d h ne e = issued_only (slice_index_or stages i d) ne (sym (
 pub is_issued : (stages : List Progress) (i : ℕ) (d : Progress) → i < length stages → slice_index_or stages i d ≡ progress.Issued → stage_at (map shown_stage stages) i ≡ Issued
 is_issued stages i d h e = stage_shown stages i d h ∙ ap shown_stage e
 
-false_is : (b : Bool) → (b ≡ true → ⊥) → b ≡ false
-false_is true n = absurd (n refl)
-false_is false n = refl
-
--- whether a line that is due is cancelled
-module _ (law : CancelledByKeptEnds) (c : CoreValue) (core : IsCore c) (i : ℕ) (near : i < length c.graph.lines) (due : IsDue c.graph c.run i) where
-  pub is_cancelled : kept_cancels c.graph c.run.stages i ≡ true → eval_end c.graph i ≡ Cancelled
-  is_cancelled h = (law c.graph c.run i core.sound near due.comes (sources_of c i due)).0 h
-
-  pub runs : kept_cancels c.graph c.run.stages i ≡ false → eval_end c.graph i ≢ Cancelled
-  runs h e = true≢false (sym ((law c.graph c.run i core.sound near due.comes (sources_of c i due)).1 e) ∙ h)
-
--- THE SAME OF THE VALUE, where the code speaks of its own graph and lists
-module _ (law : CancelledByKeptEnds) (before now : CoreValue) (same : before ≡ now) (core : IsCore before) (i : ℕ) (near : i < length now.graph.lines) (h : GraphValue) (graph : h ≡ before.graph)
+-- WHAT IS FOUND, where the code speaks of its own graph and lists
+module _ (before now : CoreValue) (same : before ≡ now) (i : ℕ) (h : GraphValue) (graph : h ≡ before.graph)
     (issued_now : stage_at before.run.stages i ≡ Issued) (comes : false ≡ never_comes h i) (sources : HasSources h before.run.stages i)
   where
     due_before : IsDue before.graph before.run i
@@ -60,15 +44,12 @@ module _ (law : CancelledByKeptEnds) (before now : CoreValue) (same : before ≡
       sources = subst (λ g. HasSources g before.run.stages i) graph sources;
     }
 
-    near_before : i < length before.graph.lines
-    near_before = subst (λ (c : CoreValue). i < length c.graph.lines) (sym same) near
-
     pub found_cancelled : true ≡ kept_cancels h before.run.stages i → IsFound now i finding.Cancelled
     found_cancelled e = subst (λ (c : CoreValue). IsFound c i finding.Cancelled) same
-        (due_before, is_cancelled law before core i near_before due_before (ap (λ g. kept_cancels g before.run.stages i) (sym graph) ∙ sym e))
+        (due_before, ap (λ g. kept_cancels g before.run.stages i) (sym graph) ∙ sym e)
 
-    runs_before : false ≡ kept_cancels h before.run.stages i → eval_end before.graph i ≢ Cancelled
-    runs_before e = runs law before core i near_before due_before (ap (λ g. kept_cancels g before.run.stages i) (sym graph) ∙ sym e)
+    runs_before : false ≡ kept_cancels h before.run.stages i → kept_cancels before.graph before.run.stages i ≡ false
+    runs_before e = ap (λ g. kept_cancels g before.run.stages i) (sym graph) ∙ sym e
 
     pub found_busy : false ≡ kept_cancels h before.run.stages i → (thing : Thing) → IsHeldBy h before.run i thing → IsFound now i (finding.Busy thing)
     found_busy e thing held = subst (λ (c : CoreValue). IsFound c i (finding.Busy thing)) same (due_before, runs_before e, subst (λ g. IsHeldBy g before.run i thing) graph held)
@@ -83,4 +64,4 @@ issued_here stages i p near e is = is_issued stages i p near (sym e ∙ is)
 -- a line of the graph has a stage
 pub stages_near : (before : CoreValue) (stages : List Progress) (now : CoreValue) (i : ℕ) → before ≡ now → before.run.stages ≡ map shown_stage stages → IsCore before → i < length now.graph.lines → i < length stages
 stages_near before stages now i same shows core near =
-    subst (λ n. i < n) (sym (sym (length-map stages shown_stage) ∙ (ap length (sym shows) ∙ core.sound.on_lines.each_line))) (subst (λ (c : CoreValue). i < length c.graph.lines) (sym same) near)
+    subst (λ n. i < n) (sym (sym (length-map stages shown_stage) ∙ (ap length (sym shows) ∙ (kept_core before core).sound.on_lines.each_line))) (subst (λ (c : CoreValue). i < length c.graph.lines) (sym same) near)

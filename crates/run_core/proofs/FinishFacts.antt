@@ -1,33 +1,31 @@
 -- What a run on one thread keeps.
-use Rattle.std.proofs.Common.{◌≡◌, ℕ, ◌+◌, ◌<◌, ◌≤◌, Bool, true, false, not, ◌⊎◌, inl, inr, List, length, length-set, refl, sym, ◌∙◌, ap, subst, arith}
+use Rattle.std.proofs.Common.{◌≡◌, ℕ, ◌+◌, ◌<◌, ◌≤◌, Bool, true, false, not, inl, inr, List, length, length-set, refl, sym, ◌∙◌, ap, subst, arith}
 use Rattle.std.specs.Prelude.{◌≢◌, Some, None, is_some, slice_get, slice_set, [], ◌∷◌}
-use Rattle.std.proofs.lemmas.Bool.{true≢false, cases_eq}
+use Rattle.std.proofs.lemmas.Bool.{true≢false, cases_eq, cases_Bool}
 use Rattle.std.proofs.lemmas.List.{get_or-set_same, get_or-set_other, set-set}
 use Rattle.graph_terms.specs.declared.outcome.End.{End}
-use Rattle.graph_terms.specs.declared.outcome.End.TheVariants.{Done, Faulted, Cancelled, Waiting}
 use Rattle.graph_terms.specs.declared.verb.Access.{Access}
 use Rattle.graph_terms.specs.Graph.{GraphValue}
 use Rattle.graph_terms.specs.Access.{accesses}
-use Rattle.graph_meaning.specs.Evaluation.{eval_end}
 use Rattle.basics.proofs.ListFacts.{count_below-le, fewer_below, map_contains, got_in}
 use Rattle.basics.specs.Lists.{count_below}
 use Rattle.event_table.specs.declared.handle.Handle.{Handle}
 use Rattle.event_table.specs.EventMap.{SlotLife, IsFull}
 use Rattle.run_state.specs.Run.{LineStage, Unissued, Issued, Out, Ending, Ended, Run, stage_at, time_at, stage_issued, stage_ended, stage_out, issued, out, ended, timed}
-use Rattle.run_state.specs.Quiet.{CanTake, IsFree, Quiet}
+use Rattle.run_state.specs.Quiet.{kept_cancels}
 use Rattle.run_state.specs.Moves.{claim}
 use Rattle.run_state.specs.WholeLine.{column_list, take_whole}
-use Rattle.run_core.specs.Core.{CoreValue, IsCore}
-use Rattle.run_core.specs.Works.{WorkValue, FinishedValue}
+use Rattle.run_core.specs.Core.{CoreValue, IsCore, kept_faults}
+use Rattle.run_core.specs.Works.{WorkValue, FinishedValue, IsWork}
 use Rattle.run_core.specs.Steps.{with_issue, IsLeft, IsHeldBy, StandsBy, with_run, Takes, Attempts, with_end, handle_at, Wakes, Issues}
-use Rattle.run_core.specs.Finishing.{NothingOut, left_to_do, Stays, GoesOn, IsStill}
+use Rattle.run_core.specs.Finishing.{NothingOut, left_to_do, Stays, GoesOn, IsStill, IsFreeSoFar, CanBeTaken, IsQuiet}
 use Rattle.run_core.specs.declared.answers.Attempt.{Attempt}
 use Rattle.run_core.specs.declared.answers.Attempt.TheVariants as attempts
 use Rattle.run_parts.specs.declared.answers.Issue.{Issue}
 use Rattle.run_parts.specs.declared.answers.Issue.TheVariants as issues
 use Rattle.run_parts.specs.declared.answers.Thing.{Thing}
 use Rattle.run_parts.specs.declared.answers.Thing.TheVariants as things
-use Rattle.run_core.proofs.CoreFacts.{may_issue, line_near}
+use Rattle.run_core.proofs.CoreFacts.{may_issue, line_near, kept_core, kept_may}
 use Rattle.run_core.proofs.EventFacts.{at_contains, lt_unless}
 
 -- WHAT STAYS
@@ -56,11 +54,12 @@ stays_by_line old new k s handles stages going times = record {
 
 -- ONE STEP AFTER ANOTHER
 pub goes_nowhere : (c : CoreValue) → NothingOut c → GoesOn c c
-goes_nowhere c nothing = record { graph = refl; slots = refl; nothing_out = nothing; stays = stays_same c; left = omega arith }
+goes_nowhere c nothing = record { graph = refl; hosted = refl; slots = refl; nothing_out = nothing; stays = stays_same c; left = omega arith }
 
 pub goes_further : (a b c : CoreValue) → GoesOn a b → GoesOn b c → GoesOn a c
 goes_further a b c x y = record {
   graph = y.graph ∙ x.graph;
+  hosted = y.hosted ∙ x.hosted;
   slots = y.slots ∙ x.slots;
   nothing_out = y.nothing_out;
   stays = stays_further a b c x.stays y.stays;
@@ -68,18 +67,19 @@ goes_further a b c x y = record {
 }
 
 pub is_still : (c : CoreValue) → IsStill c c
-is_still c = record { graph = refl; run = refl; handles = refl }
+is_still c = record { graph = refl; hosted = refl; run = refl; handles = refl }
 
 pub still_further : (a b c : CoreValue) → IsStill a b → IsStill b c → IsStill a c
-still_further a b c x y = record { graph = y.graph ∙ x.graph; run = y.run ∙ x.run; handles = y.handles ∙ x.handles }
+still_further a b c x y = record { graph = y.graph ∙ x.graph; hosted = y.hosted ∙ x.hosted; run = y.run ∙ x.run; handles = y.handles ∙ x.handles }
 
 -- how much is left, by the stages
 abbrev pub left_in : List LineStage → ℕ → ℕ
 left_in stages n = count_below (λ i. not (issued stages i)) n + count_below (λ i. not (ended stages i)) n
 
-pub goes_by_stages : (old new : CoreValue) → new.graph ≡ old.graph → length new.table.slots ≡ length old.table.slots → (stages : List LineStage) → new.run.stages ≡ stages → ((i : ℕ) → out stages i ≡ false) → Stays old new → left_in stages (length old.graph.lines) ≤ left_to_do old → GoesOn old new
-goes_by_stages old new graph slots stages is nothing stays left = record {
+pub goes_by_stages : (old new : CoreValue) → new.graph ≡ old.graph → new.hosted ≡ old.hosted → length new.table.slots ≡ length old.table.slots → (stages : List LineStage) → new.run.stages ≡ stages → ((i : ℕ) → out stages i ≡ false) → Stays old new → left_in stages (length old.graph.lines) ≤ left_to_do old → GoesOn old new
+goes_by_stages old new graph hosted slots stages is nothing stays left = record {
   «graph» = graph;
+  «hosted» = hosted;
   «slots» = slots;
   nothing_out = λ i. ap (λ ss. out ss i) is ∙ nothing i;
   «stays» = stays;
@@ -90,7 +90,7 @@ pub fewer_by_stages : (old new : CoreValue) → new.graph ≡ old.graph → (sta
 fewer_by_stages old new graph stages is left = subst (λ n. n < left_to_do old) (sym (ap (λ ss. left_in ss (length new.graph.lines)) is ∙ ap (λ (g : GraphValue). left_in stages (length g.lines)) graph)) left
 
 pub still_goes : (old new : CoreValue) → NothingOut old → IsStill old new → length new.table.slots ≡ length old.table.slots → GoesOn old new
-still_goes old new nothing still slots = goes_by_stages old new still.graph slots old.run.stages (ap (λ (r : Run). r.stages) still.run) nothing
+still_goes old new nothing still slots = goes_by_stages old new still.graph still.hosted slots old.run.stages (ap (λ (r : Run). r.stages) still.run) nothing
     (record {
       handles = λ i h e. ap (λ hs. slice_get hs i) still.handles ∙ e;
       ends = λ i x e. ap (λ (r : Run). stage_at r.stages i) still.run ∙ e;
@@ -146,7 +146,7 @@ module _ (stages : List LineStage) (i : ℕ) (s : LineStage) (near : i < length 
 -- A LINE THAT CAN'T BE TAKEN
 same_still : (old new : CoreValue) → new ≡ old → IsStill old new × (length new.table.slots ≡ length old.table.slots)
 same_still old new same = (
-  record { graph = ap (λ (c : CoreValue). c.graph) same; run = ap (λ (c : CoreValue). c.run) same; handles = ap (λ (c : CoreValue). c.handles) same },
+  record { graph = ap (λ (c : CoreValue). c.graph) same; hosted = ap (λ (c : CoreValue). c.hosted) same; run = ap (λ (c : CoreValue). c.run) same; handles = ap (λ (c : CoreValue). c.handles) same },
   ap (λ (c : CoreValue). length c.table.slots) same,
 )
 
@@ -154,42 +154,39 @@ stood : (old new : CoreValue) (i j : ℕ) → StandsBy old new i j → IsStill o
 stood old new i j stands = elim stands.either [
   | inl same ↦ same_still old new same
   | inr (h, at, is) ↦ (
-    record { graph = ap (λ (c : CoreValue). c.graph) is; run = ap (λ (c : CoreValue). c.run) is; handles = ap (λ (c : CoreValue). c.handles) is },
+    record { graph = ap (λ (c : CoreValue). c.graph) is; hosted = ap (λ (c : CoreValue). c.hosted) is; run = ap (λ (c : CoreValue). c.run) is; handles = ap (λ (c : CoreValue). c.handles) is },
     ap (λ (c : CoreValue). length c.table.slots) is ∙ length-set old.table.slots h.slot _,
   )
 ]
 
-held_not_free : (g : GraphValue) (run : Run) (i : ℕ) (thing : Thing) → eval_end g i ≢ Cancelled → IsHeldBy g run i thing → IsFree g run i → ⊥
-held_not_free g run i thing runs held (inl cancelled) = runs cancelled
+held_not_free : (g : GraphValue) (run : Run) (i : ℕ) (thing : Thing) → kept_cancels g run.stages i ≡ false → IsHeldBy g run i thing → IsFreeSoFar g run i → ⊥
+held_not_free g run i thing runs held (inl cancelled) = true≢false (sym cancelled ∙ runs)
 held_not_free g run i (things.Lock l) runs held (inr free) = true≢false (sym (free.0 l held.0 held.1.0 held.1.1) ∙ held.1.2)
 held_not_free g run i (things.Column c) runs held (inr free) = held.1.is_out (free.1 c (map_contains (λ (a : Access). a.column) (accesses g i) c (at_contains (column_list g i) held.1.place c held.1.column)))
 
-pub not_taken : (old new : CoreValue) (i : ℕ) (a : Attempt) → Attempts old new i a → ((w : WorkValue) → a ≢ attempts.Taken w) → IsStill old new × (length new.table.slots ≡ length old.table.slots) × (CanTake old.graph old.run i → ⊥)
+pub not_taken : (old new : CoreValue) (i : ℕ) (a : Attempt) → Attempts old new i a → ((w : WorkValue) → a ≢ attempts.Taken w) → IsStill old new × (length new.table.slots ≡ length old.table.slots) × (CanBeTaken old.graph old.run i → ⊥)
 not_taken old new i (attempts.Taken w) h none = absurd (none w refl)
 not_taken old new i (attempts.Over s) h none = let same = same_still old new h.2 in (same.0, same.1, λ can. h.0 can.is_issued)
 not_taken old new i attempts.Never h none = let same = same_still old new h.2 in (same.0, same.1, λ can. true≢false (sym h.1 ∙ can.comes))
 not_taken old new i (attempts.NotYet j) h none =
     let same = stood old new i j h.3 in
-    let edge = h.2.waits in
-    (same.0, same.1, λ can. true≢false (sym (can.sources edge.0 edge.1 edge.3) ∙ (ap (ended old.run.stages) edge.2 ∙ h.2.left)))
+    (same.0, same.1, λ can. true≢false (sym (can.sources j h.2.waits) ∙ h.2.left))
 not_taken old new i (attempts.Busy thing) h none = let same = same_still old new h.3 in (same.0, same.1, λ can. held_not_free old.graph old.run i thing h.1 h.2 can.is_free)
 
 -- A LINE THAT IS TAKEN AND PUT BACK
-cancelled_or_not : (x : End) → (x ≡ Cancelled) ⊎ (x ≢ Cancelled)
-cancelled_or_not Done = inr (λ e. cc)
-cancelled_or_not Faulted = inr (λ e. cc)
-cancelled_or_not Cancelled = inl refl
-cancelled_or_not Waiting = inr (λ e. cc)
+pub work_out : (c : CoreValue) (w : WorkValue) → IsWork c w → stage_at c.run.stages w.line ≡ Out
+work_out c w is = (is (kept_faults c) (kept_may c)).is_out
 
 pub record GoesOut (old mid : CoreValue) (i : ℕ) : Type 0 where
   pub graph : mid.graph ≡ old.graph
+  pub hosted : mid.hosted ≡ old.hosted
   pub stages : mid.run.stages ≡ slice_set old.run.stages i Out
   pub times : mid.run.times ≡ old.run.times
   pub handles : mid.handles ≡ old.handles
   pub slots : length mid.table.slots ≡ length old.table.slots
 
 pub goes_out : (old mid : CoreValue) (w : WorkValue) → Takes old mid w → GoesOut old mid w.line
-goes_out old mid w takes = elim (cancelled_or_not (eval_end old.graph w.line)) [
+goes_out old mid w takes = elim (cases_Bool (kept_cancels old.graph old.run.stages w.line)) [
   | inl cancelled ↦ by_run (claim old.run w.line) (takes.claimed cancelled) refl refl
   | inr runs ↦ by_run (take_whole old.graph old.run w.line) (takes.taken runs).2 refl refl
 ]
@@ -197,6 +194,7 @@ goes_out old mid w takes = elim (cancelled_or_not (eval_end old.graph w.line)) [
     by_run : (run : Run) → mid ≡ with_run old run → run.stages ≡ slice_set old.run.stages w.line Out → run.times ≡ old.run.times → GoesOut old mid w.line
     by_run run is shape timed = record {
       graph = ap (λ (c : CoreValue). c.graph) is;
+      hosted = ap (λ (c : CoreValue). c.hosted) is;
       stages = ap (λ (c : CoreValue). c.run.stages) is ∙ shape;
       times = ap (λ (c : CoreValue). c.run.times) is ∙ timed;
       handles = ap (λ (c : CoreValue). c.handles) is;
@@ -215,6 +213,9 @@ module _ (old mid new : CoreValue) (w : WorkValue) (f : FinishedValue) (core : I
   graph_after : new.graph ≡ old.graph
   graph_after = ap (λ (c : CoreValue). c.graph) put ∙ gone.graph
 
+  hosted_after : new.hosted ≡ old.hosted
+  hosted_after = ap (λ (c : CoreValue). c.hosted) put ∙ gone.hosted
+
   slots_after : length new.table.slots ≡ length old.table.slots
   slots_after = ap (λ (c : CoreValue). length c.table.slots) put ∙ (length-set mid.table.slots (handle_at mid f.line).slot _ ∙ gone.slots)
 
@@ -223,7 +224,7 @@ module _ (old mid new : CoreValue) (w : WorkValue) (f : FinishedValue) (core : I
 
   within : i < length old.run.stages
   within =
-      let out_near : w.line < length mid.run.stages = line_near mid core w.line (ap stage_issued takes.work.is_out) in
+      let out_near : w.line < length mid.run.stages = line_near mid core w.line (ap stage_issued (work_out mid w takes.work)) in
       let long : length mid.run.stages ≡ length old.run.stages = ap length gone.stages ∙ length-set old.run.stages w.line Out in
       omega (arith, out_near, long, this)
 
@@ -236,8 +237,8 @@ module _ (old mid new : CoreValue) (w : WorkValue) (f : FinishedValue) (core : I
   -- the line that ends had no time before
   untimed : (t : ℕ) → time_at old.run.times i ≡ Some t → ⊥
   untimed t e =
-      let out : stage_at mid.run.stages w.line ≡ Out = takes.work.is_out in
-      let none : timed mid.run.times w.line ≡ false = core.at_rest.out_untimed w.line (ap stage_out out) in
+      let out : stage_at mid.run.stages w.line ≡ Out = work_out mid w takes.work in
+      let none : timed mid.run.times w.line ≡ false = (kept_core mid core).at_rest.out_untimed w.line (ap stage_out out) in
       true≢false (sym (ap is_some (ap (λ ts. time_at ts w.line) gone.times ∙ (ap (time_at old.run.times) this ∙ e))) ∙ none)
 
   times_after : (j t : ℕ) → time_at old.run.times j ≡ Some t → time_at new.run.times j ≡ Some t
@@ -252,7 +253,7 @@ module _ (old mid new : CoreValue) (w : WorkValue) (f : FinishedValue) (core : I
       (λ x e. true≢false (sym (ap stage_ended e) ∙ ap stage_ended was_issued)) times_after
 
   pub ran_on : GoesOn old new
-  ran_on = goes_by_stages old new graph_after slots_after (slice_set old.run.stages i (Ended f.ends)) stages_after (none_out_after old.run.stages i (Ended f.ends) within refl refl (ap stage_ended was_issued) nothing) stays_after
+  ran_on = goes_by_stages old new graph_after hosted_after slots_after (slice_set old.run.stages i (Ended f.ends)) stages_after (none_out_after old.run.stages i (Ended f.ends) within refl refl (ap stage_ended was_issued) nothing) stays_after
       (let l : left_in (slice_set old.run.stages i (Ended f.ends)) (length old.graph.lines) < left_to_do old = less in omega (arith, l))
 
   pub graph_out : mid.graph ≡ old.graph
@@ -260,7 +261,7 @@ module _ (old mid new : CoreValue) (w : WorkValue) (f : FinishedValue) (core : I
 
 -- A LINE IS WOKEN
 pub woken_goes : (old new : CoreValue) (k : ℕ) → NothingOut old → Wakes old k new → GoesOn old new
-woken_goes old new k nothing wakes = still_goes old new nothing (record { graph = wakes.1; run = wakes.2; handles = wakes.3 }) (ap (λ (ls : List SlotLife). length ls) wakes.0.4)
+woken_goes old new k nothing wakes = still_goes old new nothing (record { graph = wakes.1; hosted = wakes.4; run = wakes.2; handles = wakes.3 }) (ap (λ (ls : List SlotLife). length ls) wakes.0.4)
 
 -- A LINE IS ISSUED
 module _ (old new : CoreValue) (h : Handle) (core : IsCore old) (nothing : NothingOut old) (left : IsLeft old) (is : new ≡ with_issue old h) where
@@ -268,7 +269,7 @@ module _ (old new : CoreValue) (h : Handle) (core : IsCore old) (nothing : Nothi
   was_unissued = (may_issue old core left).unissued
 
   place : length old.handles < length old.run.stages
-  place = subst (λ n. length old.handles < n) (sym core.sound.on_lines.each_line) left
+  place = subst (λ n. length old.handles < n) (sym (kept_core old core).sound.on_lines.each_line) left
 
   issue_less : left_in (slice_set old.run.stages (length old.handles) Issued) (length old.graph.lines) < left_to_do old
   issue_less = less_by_issue old.run.stages (length old.handles) Issued place refl refl (ap stage_ended was_unissued) (length old.graph.lines) left (ap stage_issued was_unissued)
@@ -277,7 +278,7 @@ module _ (old new : CoreValue) (h : Handle) (core : IsCore old) (nothing : Nothi
   issued_less = fewer_by_stages old new (ap (λ (c : CoreValue). c.graph) is) (slice_set old.run.stages (length old.handles) Issued) (ap (λ (c : CoreValue). c.run.stages) is) issue_less
 
   pub issued_goes : GoesOn old new
-  issued_goes = goes_by_stages old new (ap (λ (c : CoreValue). c.graph) is) (ap (λ (c : CoreValue). length c.table.slots) is ∙ length-set old.table.slots h.slot _) (slice_set old.run.stages (length old.handles) Issued) (ap (λ (c : CoreValue). c.run.stages) is)
+  issued_goes = goes_by_stages old new (ap (λ (c : CoreValue). c.graph) is) (ap (λ (c : CoreValue). c.hosted) is) (ap (λ (c : CoreValue). length c.table.slots) is ∙ length-set old.table.slots h.slot _) (slice_set old.run.stages (length old.handles) Issued) (ap (λ (c : CoreValue). c.run.stages) is)
       (none_out_after old.run.stages (length old.handles) Issued place refl refl (ap stage_ended was_unissued) nothing)
       (stays_by_line old new (length old.handles) Issued (λ i k e. ap (λ (c : CoreValue). slice_get c.handles i) is ∙ got_in old.handles (h ∷ []) i k e) (ap (λ (c : CoreValue). c.run.stages) is)
       (λ x e. true≢false (sym (ap stage_ended e) ∙ ap stage_ended was_unissued)) (λ i t e. ap (λ (c : CoreValue). time_at c.run.times i) is ∙ e))
@@ -288,7 +289,7 @@ pub record Scanned (old new : CoreValue) (moved : Bool) (line : ℕ) : Type 0 wh
   pub goes_on : GoesOn old new
   pub is_less : moved ≡ true → left_to_do new < left_to_do old
   pub still : moved ≡ false → IsStill old new
-  pub none : moved ≡ false → (i : ℕ) → i < line → CanTake new.graph new.run i → ⊥
+  pub none : moved ≡ false → (i : ℕ) → i < line → CanBeTaken new.graph new.run i → ⊥
 
 pub scan_moved : (old now ran after : CoreValue) (moved : Bool) (line n : ℕ) → Scanned old now moved line → GoesOn now ran → left_to_do ran < left_to_do now → GoesOn ran after → Scanned old after true n
 scan_moved old now ran after moved line n so_far goes less follows = record {
@@ -298,18 +299,18 @@ scan_moved old now ran after moved line n so_far goes less follows = record {
   none = λ e. absurd (true≢false e);
 }
 
-taken_back : (g h : GraphValue) (run after : Run) (i : ℕ) → h ≡ g → after ≡ run → CanTake h after i → CanTake g run i
-taken_back g h run after i same runs can = subst (λ k. CanTake k run i) same (subst (λ r. CanTake h r i) runs can)
+taken_back : (g h : GraphValue) (run after : Run) (i : ℕ) → h ≡ g → after ≡ run → CanBeTaken h after i → CanBeTaken g run i
+taken_back g h run after i same runs can = subst (λ k. CanBeTaken k run i) same (subst (λ r. CanBeTaken h r i) runs can)
 
-pub scan_stays : (old now ran : CoreValue) (moved : Bool) (line : ℕ) → Scanned old now moved line → GoesOn now ran → IsStill now ran → (CanTake now.graph now.run line → ⊥) → Scanned old ran moved (line + 1)
+pub scan_stays : (old now ran : CoreValue) (moved : Bool) (line : ℕ) → Scanned old now moved line → GoesOn now ran → IsStill now ran → (CanBeTaken now.graph now.run line → ⊥) → Scanned old ran moved (line + 1)
 scan_stays old now ran moved line so_far goes still refused = record {
   goes_on = goes_further old now ran so_far.goes_on goes;
   is_less = λ e. (let one : left_to_do ran ≤ left_to_do now = goes.left in let other : left_to_do now < left_to_do old = so_far.is_less e in omega (arith, one, other));
   still = λ e. still_further old now ran (so_far.still e) still;
   none = λ e i l can. (
-      let before : CanTake now.graph now.run i = taken_back now.graph ran.graph now.run ran.run i still.graph still.run can in
+      let before : CanBeTaken now.graph now.run i = taken_back now.graph ran.graph now.run ran.run i still.graph still.run can in
       elim (cases_eq i line) [
-        | inl same ↦ refused (subst (CanTake now.graph now.run) same before)
+        | inl same ↦ refused (subst (CanBeTaken now.graph now.run) same before)
         | inr other ↦ so_far.none e i (lt_unless i line l other) before
       ]);
 }
@@ -322,12 +323,12 @@ scan_begins c nothing = record {
   none = λ e i l. absurd (omega (arith, l));
 }
 
-pub scan_ends : (old now : CoreValue) (moved : Bool) (line : ℕ) → IsCore now → Scanned old now moved line → length old.graph.lines ≤ line → moved ≡ false → IsStill old now × ((i : ℕ) → CanTake now.graph now.run i → ⊥)
+pub scan_ends : (old now : CoreValue) (moved : Bool) (line : ℕ) → IsCore now → Scanned old now moved line → length old.graph.lines ≤ line → moved ≡ false → IsStill old now × ((i : ℕ) → CanBeTaken now.graph now.run i → ⊥)
 scan_ends old now moved line core so_far all e = (
   so_far.still e,
   λ i can. so_far.none e i (
       let near : i < length now.run.stages = line_near now core i (ap stage_issued can.is_issued) in
-      let each : length now.run.stages ≡ length now.graph.lines = core.sound.on_lines.each_line in
+      let each : length now.run.stages ≡ length now.graph.lines = (kept_core now core).sound.on_lines.each_line in
       let graph : length now.graph.lines ≡ length old.graph.lines = ap (λ (g : GraphValue). length g.lines) so_far.goes_on.graph in
       omega (arith, near, each, graph, all)) can,
 )
@@ -339,27 +340,27 @@ kept_by_issue old new issues.NoSlot h none = h.2
 kept_by_issue old new issues.All h none = h.1
 kept_by_issue old new issues.Other h none = absurd h
 
-all_quiet : (c : CoreValue) → IsCore c → NothingOut c → ((i : ℕ) → CanTake c.graph c.run i → ⊥) → length c.handles ≡ length c.graph.lines → Quiet c.graph c.run
+all_quiet : (c : CoreValue) → IsCore c → NothingOut c → ((i : ℕ) → CanBeTaken c.graph c.run i → ⊥) → length c.handles ≡ length c.graph.lines → IsQuiet c.graph c.run
 all_quiet c core nothing none all = record {
-  first_issued = λ i l. (core.events.each_issued i).1 (omega (arith, l, all));
+  first_issued = λ i l. ((kept_core c core).events.each_issued i).1 (omega (arith, l, all));
   none_out = nothing;
-  none_ending = core.at_rest.none_ending;
+  none_ending = (kept_core c core).at_rest.none_ending;
   none_taken = none;
 }
 
-quiet_then : (g h : GraphValue) (run after : Run) → h ≡ g → after ≡ run → Quiet g run → Quiet h after
-quiet_then g h run after same runs quiet = subst (λ k. Quiet k after) (sym same) (subst (λ r. Quiet g r) (sym runs) quiet)
+quiet_then : (g h : GraphValue) (run after : Run) → h ≡ g → after ≡ run → IsQuiet g run → IsQuiet h after
+quiet_then g h run after same runs quiet = subst (λ k. IsQuiet k after) (sym same) (subst (λ r. IsQuiet g r) (sym runs) quiet)
 
-quiet_by : (old new : CoreValue) (a : Issue) → IsCore old → NothingOut old → (IsLeft old → IsFull old.table → ⊥) → ((i : ℕ) → CanTake old.graph old.run i → ⊥) → Issues old new a → ((i : ℕ) → a ≢ issues.Issued i) → Quiet old.graph old.run
+quiet_by : (old new : CoreValue) (a : Issue) → IsCore old → NothingOut old → (IsLeft old → IsFull old.table → ⊥) → ((i : ℕ) → CanBeTaken old.graph old.run i → ⊥) → Issues old new a → ((i : ℕ) → a ≢ issues.Issued i) → IsQuiet old.graph old.run
 quiet_by old new (issues.Issued i) core nothing free none h other = absurd (other i refl)
 quiet_by old new issues.NoSlot core nothing free none h other = absurd (free h.0 h.1)
 quiet_by old new issues.All core nothing free none h other = all_quiet old core nothing none h.0
 quiet_by old new issues.Other core nothing free none h other = absurd h
 
-pub quiet_after : (old mid new : CoreValue) (a : Issue) → IsCore old → NothingOut old → (NothingOut old → ((i : ℕ) → CanTake old.graph old.run i → ⊥) → IsLeft old → IsFull old.table → ⊥) → Issues old mid a → ((i : ℕ) → a ≢ issues.Issued i) →
-    IsStill mid new → ((i : ℕ) → CanTake new.graph new.run i → ⊥) → Quiet new.graph new.run
+pub quiet_after : (old mid new : CoreValue) (a : Issue) → IsCore old → NothingOut old → (NothingOut old → ((i : ℕ) → CanBeTaken old.graph old.run i → ⊥) → IsLeft old → IsFull old.table → ⊥) → Issues old mid a → ((i : ℕ) → a ≢ issues.Issued i) →
+    IsStill mid new → ((i : ℕ) → CanBeTaken new.graph new.run i → ⊥) → IsQuiet new.graph new.run
 quiet_after old mid new a core nothing free h other still none =
     let same : mid ≡ old = kept_by_issue old mid a h other in
     let kept : IsStill old new = subst (λ (c : CoreValue). IsStill c new) same still in
-    let not_yet : (i : ℕ) → CanTake old.graph old.run i → ⊥ = λ i can. none i (taken_back new.graph old.graph new.run old.run i (sym kept.graph) (sym kept.run) can) in
+    let not_yet : (i : ℕ) → CanBeTaken old.graph old.run i → ⊥ = λ i can. none i (taken_back new.graph old.graph new.run old.run i (sym kept.graph) (sym kept.run) can) in
     quiet_then old.graph new.graph old.run new.run kept.graph kept.run (quiet_by old mid a core nothing (free nothing not_yet) not_yet h other)

@@ -21,7 +21,7 @@ use Rattle.run_state.proofs.Public.{listed_contains, contains_listed, none_liste
 use Rattle.run_state.proofs.HolderLists.{one_more_passes, one_passes_no_more}
 use Rattle.graph_terms.proofs.Public.{is_acquire_from, passes_verb, verb_passes, verb_below, passes_below, acquire_one, acquired_lock_known, release_names}
 use Rattle.std.specs.Option.{option_map_or}
-use Rattle.run_core.specs.Kept.{frees_so_far, frees_in}
+use Rattle.run_core.specs.Kept.{frees_as, frees_in, ends_so_far}
 use Rattle.run_core.specs.Holders.{holds_lock, holders_at, holders_by, IsHeldAs, AreHeld, keeps_out, joined, parted}
 use Rattle.run_core.specs.Steps.{HasLock, IsKeptOut}
 use Rattle.run_parts.specs.declared.locks.LockState.{LockState}
@@ -50,7 +50,7 @@ acquire_known g is i q line h e =
 -- what a release frees
 pub frees_shown : (g : GraphValue) (stages : List LineStage) (i q l : ℕ) (s : Bool) (line acquire : Line) → slice_get g.lines i ≡ Some line → line.verb ≡ Release q → slice_get g.lines q ≡ Some acquire → acquire.verb ≡ Acquire l s → end_so_far (stage_at stages q) ≡ Done → frees_in g stages i ≡ Some (l, q)
 frees_shown g stages i q l s line acquire h e a f done =
-    ap (λ o. option_map_or (frees_so_far g stages) o None) (verb_is g i line h ∙ ap (λ v. Some v) e)
+    ap (λ o. option_map_or (frees_as g (ends_so_far stages)) o None) (verb_is g i line h ∙ ap (λ v. Some v) e)
     ∙ (ap (λ e. freed_lock q e (lock_of g q)) done
     ∙ ap (λ o. freed_lock q Done (option_map_or lock_by o None)) (verb_is g q acquire a ∙ ap (λ v. Some v) f))
 

@@ -27,3 +27,4 @@ pub mod ResumeCore
 pub mod PartsFacts
 pub mod RestFacts
 pub mod CountFacts
+pub mod Public

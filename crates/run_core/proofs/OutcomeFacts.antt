@@ -2,7 +2,7 @@
 use Rattle.std.proofs.Common.{false, Bool, ◌≡◌, ℕ, zero, suc, ◌+◌, ◌<◌, ◌≤◌, inl, inr, List, [], ◌∷◌, map, length, replicate, refl, sym, ◌∙◌, ap, subst, arith}
 use Rattle.std.specs.Prelude.{◌≢◌, Option, Some, None, IsSome, slice_get, slice_index, slice_index_or}
 use Rattle.std.specs.List.{range_with_len}
-use Rattle.std.proofs.lemmas.Bool.{true≢false, cases_lt, cases_order}
+use Rattle.std.proofs.lemmas.Bool.{true≢false, false≢true, cases_lt, cases_order}
 use Rattle.std.proofs.lemmas.List.{length-map, length-replicate, get_or_past, get_or-map}
 use Rattle.std.proofs.lemmas.List.FromFn.{fill_by_all, get_or-map-range_with_len, length-map-range_with_len}
 use Rattle.std.proofs.lemmas.Option.{none-some, same_Some, slice_get-get_or, get_or_from_slice_get}
@@ -17,30 +17,32 @@ use Rattle.graph_terms.specs.declared.verb.Verb.{Verb}
 use Rattle.graph_terms.specs.declared.verb.Verb.TheVariants.{Phase}
 use Rattle.graph_terms.specs.Graph.{GraphValue, columns, column_space, verb_at}
 use Rattle.graph_meaning.specs.Effect.{zero_cells}
-use Rattle.graph_meaning.specs.Evaluation.{answer_of, column_of, outcome}
-use Rattle.graph_meaning.specs.Trace.{IsLawful}
+use Rattle.graph_meaning.specs.Evaluation.{answer_of, column_of, outcome_with}
 use Rattle.event_table.specs.declared.handle.Handle.{Handle}
 use Rattle.event_table.specs.EventMap.{answer, fresh, no_event}
 use Rattle.line_effects.specs.Homes.{all_home}
 use Rattle.run_state.specs.Run.{Home, Had, Run, stage_at, time_at, place_at, end_so_far}
 use Rattle.run_state.specs.Start.{first_value}
-use Rattle.run_state.specs.Quiet.{Quiet, ByTimes, phase_so_far_by, phase_so_far, cells_at}
+use Rattle.run_state.specs.Quiet.{ByTimes, phase_so_far_by, phase_so_far, cells_at, IsLawfulWith, GivesOutcomeWith}
 use Rattle.run_state.specs.Laws.{QuietGivesOutcome, SlotsAreByTimes, ClockIsSmall}
-use Rattle.run_state.proofs.Public.{started_below, ended_started}
+use Rattle.run_state.proofs.Public.{started_below_with, ended_started}
 use Rattle.basics.proofs.ListFacts.{got_contains, map_same}
 use Rattle.run_parts.specs.LineEvents.{answer_for, last_gen_for}
-use Rattle.run_core.specs.Core.{CoreValue, unissued, IsCore}
+use Rattle.run_core.specs.Core.{CoreValue, unissued_by, MayFault, IsCore, kept_faults}
 use Rattle.run_core.specs.Events.{EventsValue}
 use Rattle.run_core.specs.Answers.{answer_shown, AsksHandles, phase_for, phase_of_line}
-use Rattle.run_core.specs.Kept.{shown_stage, place_of, places_of, no_past, past_of, run_by, shown_core, AreKept}
+use Rattle.run_core.specs.Kept.{ends_so_far, shown_stage, place_of, places_of, no_past, past_of, run_by, shown_core, AreKept}
 use Rattle.run_parts.specs.declared.progress.Progress.{Progress}
 use Rattle.run_parts.specs.declared.progress.Progress.TheVariants as progress
 use Rattle.run_core.proofs.PastFacts.{clock_from, at_time}
 use Rattle.run_core.proofs.PlaceFacts.{place_is, is_there}
 use Rattle.run_core.proofs.TakenFacts.{column_eq}
 use Rattle.run_core.proofs.WorkFacts.{core_of}
-use Rattle.run_core.proofs.CoreFacts.{line_near}
+use Rattle.run_core.proofs.CoreFacts.{line_near, kept_core, kept_may, core_with}
 use Rattle.run_core.proofs.HolderFacts.{holders_first}
+use Rattle.run_core.specs.Finishing.{IsQuiet}
+use Rattle.run_state.specs.Verdicts.{effect_by}
+use Rattle.run_core.proofs.SlotFacts.{stuck_with}
 
 -- BEFORE ANY LINE IS ISSUED
 map_replicate : {X Y : Type 0} (f : X → Y) (n k : ℕ) (x : X) → map f (replicate n x) ≡ map (λ (i : ℕ). f x) (range_with_len k n)
@@ -51,13 +53,13 @@ places_first : (column : ℕ → ColumnValue) (t n k : ℕ) → places_of (map (
 places_first column t zero k = refl
 places_first column t (suc n) k = ap (λ ys. Home (column k).cells ∷ ys) (places_first column t n (k + 1))
 
-pub shown_first : (g : GraphValue) (stages : List Progress) (events : EventsValue) (homes : List (Option ColumnValue)) (takers values : List ℕ) (marks : List Bool) (trace : List ℕ) (slots : ℕ) →
+pub shown_first : (hosted : Bool) (g : GraphValue) (stages : List Progress) (events : EventsValue) (homes : List (Option ColumnValue)) (takers values : List ℕ) (marks : List Bool) (trace : List ℕ) (slots : ℕ) →
     stages ≡ replicate (length g.lines) progress.Unissued → events ≡ record { handles = []; table = fresh slots (length g.lines) (last_gen_for (length g.lines)) } → homes ≡ all_home g zero_cells → takers ≡ replicate (length (columns g)) 0 →
     values ≡ map (first_value g) (numbers_below (length g.lines)) → marks ≡ replicate (length g.lines) false → trace ≡ [] →
-    shown_core g stages events homes takers values marks trace ≡ unissued g slots
-shown_first g stages events homes takers values marks trace slots s e h t v o r =
-    (λ i. shown_core g (s i) (e i) (h i) (t i) (v i) (o i) (r i))
-    ∙ (λ i. core_of g (run_by (no_past g) (map_replicate shown_stage (length g.lines) 0 progress.Unissued i) (places_first (column_of g zero_cells) 0 (length (columns g)) 0 i) (map (first_value g) (numbers_below (length g.lines))) (holders_first g i)) [] (fresh slots (length g.lines) (last_gen_for (length g.lines))))
+    shown_core hosted g stages events homes takers values marks trace ≡ unissued_by hosted g slots
+shown_first hosted g stages events homes takers values marks trace slots s e h t v o r =
+    (λ i. shown_core hosted g (s i) (e i) (h i) (t i) (v i) (o i) (r i))
+    ∙ (λ i. core_of hosted g (run_by (no_past g) (map_replicate shown_stage (length g.lines) 0 progress.Unissued i) (places_first (column_of g zero_cells) 0 (length (columns g)) 0 i) (map (first_value g) (numbers_below (length g.lines))) (holders_first g i)) [] (fresh slots (length g.lines) (last_gen_for (length g.lines))))
 
 pub kept_first : (g : GraphValue) (homes : List (Option ColumnValue)) (takers : List ℕ) → homes ≡ all_home g zero_cells → takers ≡ replicate (length (columns g)) 0 → AreKept g homes takers
 kept_first g homes takers h t = record {
@@ -73,48 +75,48 @@ kept_first g homes takers h t = record {
     ]
 
 -- WHAT IS ASKED where each line is issued
-all_handles : (c : CoreValue) → IsCore c → Quiet c.graph c.run → length c.handles ≡ length c.graph.lines
+all_handles : (c : CoreValue) → IsCore c → IsQuiet c.graph c.run → length c.handles ≡ length c.graph.lines
 all_handles c core quiet = elim (cases_order (length c.handles) (length c.graph.lines)) [
   | inl same ↦ same
-  | inr (inl below) ↦ absurd (let z : length c.handles < length c.handles = (core.events.each_issued (length c.handles)).0 (quiet.first_issued (length c.handles) below) in omega arith)
-  | inr (inr above) ↦ absurd (let z : length c.graph.lines < length c.graph.lines = subst (λ n. length c.graph.lines < n) core.sound.on_lines.each_line
-      (line_near c core (length c.graph.lines) ((core.events.each_issued (length c.graph.lines)).1 above)) in omega arith)
+  | inr (inl below) ↦ absurd (let z : length c.handles < length c.handles = ((kept_core c core).events.each_issued (length c.handles)).0 (quiet.first_issued (length c.handles) below) in omega arith)
+  | inr (inr above) ↦ absurd (let z : length c.graph.lines < length c.graph.lines = subst (λ n. length c.graph.lines < n) (kept_core c core).sound.on_lines.each_line
+      (line_near c core (length c.graph.lines) (((kept_core c core).events.each_issued (length c.graph.lines)).1 above)) in omega arith)
 ]
 
-pub handles_and_stages : (c : CoreValue) (stages : List Progress) → c.run.stages ≡ map shown_stage stages → IsCore c → Quiet c.graph c.run → length c.handles ≡ length stages
-handles_and_stages c stages shows core quiet = all_handles c core quiet ∙ (sym core.sound.on_lines.each_line ∙ (ap length shows ∙ length-map stages shown_stage))
+pub handles_and_stages : (c : CoreValue) (stages : List Progress) → c.run.stages ≡ map shown_stage stages → IsCore c → IsQuiet c.graph c.run → length c.handles ≡ length stages
+handles_and_stages c stages shows core quiet = all_handles c core quiet ∙ (sym (kept_core c core).sound.on_lines.each_line ∙ (ap length shows ∙ length-map stages shown_stage))
 
 pub handle_answers : (c : CoreValue) → IsCore c → (i : ℕ) (h : Handle) → slice_get c.handles i ≡ Some h → IsSome (answer c.table h)
-handle_answers c core i h at = subst IsSome (sym (core.events.answers i h at)) refl
+handle_answers c core i h at = subst IsSome (sym ((kept_core c core).events.answers i h at)) refl
 
 -- WHERE NOTHING IS OUT all columns are at home
-home_when_quiet : (c : CoreValue) → IsCore c → Quiet c.graph c.run → (k taker : ℕ) → place_at c.run.places k ≢ Had taker
-home_when_quiet c core quiet k taker at = true≢false (sym (core.sound.on_columns.had_out k taker at) ∙ quiet.none_out taker)
+home_when_quiet : (c : CoreValue) → IsCore c → IsQuiet c.graph c.run → (k taker : ℕ) → place_at c.run.places k ≢ Had taker
+home_when_quiet c core quiet k taker at = true≢false (sym ((kept_core c core).sound.on_columns.had_out k taker at) ∙ quiet.none_out taker)
 
 pub any_default : {X : Type 0} (xs : List X) (k : ℕ) (d e : X) → k < length xs → slice_index_or xs k d ≡ slice_index_or xs k e
 any_default [] k d e h = absurd (omega (arith, h))
 any_default (x ∷ xs) zero d e h = refl
 any_default (x ∷ xs) (suc k) d e h = any_default xs k d e (omega (arith, h))
 
-pub columns_home : (c : CoreValue) (homes : List (Option ColumnValue)) (takers : List ℕ) → c.run.places ≡ places_of homes takers → IsCore c → Quiet c.graph c.run → AreKept c.graph homes takers → (k : ℕ) (d : Option ColumnValue) → k < length homes → IsSome (slice_index_or homes k d)
+pub columns_home : (c : CoreValue) (homes : List (Option ColumnValue)) (takers : List ℕ) → c.run.places ≡ places_of homes takers → IsCore c → IsQuiet c.graph c.run → AreKept c.graph homes takers → (k : ℕ) (d : Option ColumnValue) → k < length homes → IsSome (slice_index_or homes k d)
 columns_home c homes takers shows core quiet kept k d near =
     subst IsSome (any_default homes k None d near) (is_there homes takers k (kept.each_home ∙ sym kept.each_taker) near (λ taker at. home_when_quiet c core quiet k taker (ap (λ ps. place_at ps k) shows ∙ at)))
 
 -- THE TRACE
-pub trace_small : (c : CoreValue) (trace : List ℕ) → ClockIsSmall → c.run.clock ≡ (past_of c.graph trace).clock → IsCore c → length trace ≤ length c.graph.lines
+pub trace_small : (c : CoreValue) (trace : List ℕ) → ClockIsSmall → c.run.clock ≡ (past_of c.graph (ends_so_far c.run.stages) trace).clock → IsCore c → length trace ≤ length c.graph.lines
 trace_small c trace law shows core =
-    let small : c.run.clock ≤ length c.graph.lines = law c.graph c.run core.sound in
-    let clock : (past_of c.graph trace).clock ≡ 0 + length trace = clock_from c.graph (no_past c.graph) trace in
+    let small : c.run.clock ≤ length c.graph.lines = law (effect_by (kept_faults c) c.graph) c.graph c.run (kept_core c core).sound in
+    let clock : (past_of c.graph (ends_so_far c.run.stages) trace).clock ≡ 0 + length trace = clock_from c.graph (ends_so_far c.run.stages) (no_past c.graph) trace in
     omega (arith, small, clock, shows)
 
-pub trace_by_times : SlotsAreByTimes → (c : CoreValue) (trace : List ℕ) → c.run.times ≡ (past_of c.graph trace).times → c.run.clock ≡ (past_of c.graph trace).clock → IsCore c → Quiet c.graph c.run → ByTimes c.run trace
+pub trace_by_times : SlotsAreByTimes → (c : CoreValue) (trace : List ℕ) → c.run.times ≡ (past_of c.graph (ends_so_far c.run.stages) trace).times → c.run.clock ≡ (past_of c.graph (ends_so_far c.run.stages) trace).clock → IsCore c → IsQuiet c.graph c.run → ByTimes c.run trace
 trace_by_times law c trace times clock core quiet =
-    law c.graph c.run trace core.sound quiet
-    (let e : (past_of c.graph trace).clock ≡ 0 + length trace = clock_from c.graph (no_past c.graph) trace in let z : length trace ≡ c.run.clock = omega (arith, e, clock) in z)
-    (λ i t at. at_time c.graph trace i t (ap (λ ts. time_at ts i) (sym times) ∙ at))
+    law (effect_by (kept_faults c) c.graph) c.graph c.run trace (kept_core c core).sound (stuck_with c core (length c.graph.lines) quiet (kept_faults c) (kept_may c))
+    (let e : (past_of c.graph (ends_so_far c.run.stages) trace).clock ≡ 0 + length trace = clock_from c.graph (ends_so_far c.run.stages) (no_past c.graph) trace in let z : length trace ≡ c.run.clock = omega (arith, e, clock) in z)
+    (λ i t at. at_time c.graph (ends_so_far c.run.stages) trace i t (ap (λ ts. time_at ts i) (sym times) ∙ at))
 
 pub trace_lines : (c : CoreValue) (trace : List ℕ) → IsCore c → ByTimes c.run trace → (k i : ℕ) → slice_get trace k ≡ Some i → i < length c.graph.lines
-trace_lines c trace core by k i at = started_below core.sound.on_lines i (ended_started c.run.stages i ((by.listed i).0 (got_contains trace k i at)))
+trace_lines c trace core by k i at = started_below_with (kept_core c core).sound.on_lines i (ended_started c.run.stages i ((by.listed i).0 (got_contains trace k i at)))
 
 -- THE OUTCOME
 ends_at : (stages : List Progress) (k : ℕ) → slice_index_or (map (λ p. end_so_far (shown_stage p)) stages) k Waiting ≡ end_so_far (stage_at (map shown_stage stages) k)
@@ -132,10 +134,10 @@ phases_agree : (run : Run) (p : ℕ) (x : End) (o : Option Verb) → phase_for x
 phases_agree run p Done (Some (Phase b)) = refl
 phases_agree run p _ _ = refl
 
-abbrev pub outcome_with : List End → List Answer → List (Option ℕ) → List ColumnValue → List ℕ → Outcome
-outcome_with ends answers phases held trace = record { «ends» = ends; «answers» = answers; «phases» = phases; columns = held; «trace» = trace }
+abbrev pub outcome_of_parts : List End → List Answer → List (Option ℕ) → List ColumnValue → List ℕ → Outcome
+outcome_of_parts ends answers phases held trace = record { «ends» = ends; «answers» = answers; «phases» = phases; columns = held; «trace» = trace }
 
-module _ (c : CoreValue) (core : IsCore c) (quiet : Quiet c.graph c.run) (stages : List Progress) (homes : List (Option ColumnValue)) (takers : List ℕ)
+module _ (c : CoreValue) (core : IsCore c) (quiet : IsQuiet c.graph c.run) (stages : List Progress) (homes : List (Option ColumnValue)) (takers : List ℕ)
     (stages_are : c.run.stages ≡ map shown_stage stages) (places_are : c.run.places ≡ places_of homes takers) (kept : AreKept c.graph homes takers)
   where
     abbrev lines : ℕ
@@ -143,14 +145,14 @@ module _ (c : CoreValue) (core : IsCore c) (quiet : Quiet c.graph c.run) (stages
 
     ends_are : map (λ p. end_so_far (shown_stage p)) stages ≡ map (λ i. end_so_far (stage_at c.run.stages i)) (numbers_below lines)
     ends_are = fill_by_all (λ i. end_so_far (stage_at c.run.stages i)) (map (λ p. end_so_far (shown_stage p)) stages) lines Waiting
-        (length-map stages (λ p. end_so_far (shown_stage p)) ∙ (sym (length-map stages shown_stage) ∙ (ap length (sym stages_are) ∙ core.sound.on_lines.each_line)))
+        (length-map stages (λ p. end_so_far (shown_stage p)) ∙ (sym (length-map stages shown_stage) ∙ (ap length (sym stages_are) ∙ (kept_core c core).sound.on_lines.each_line)))
         (λ k near. ends_at stages k ∙ ap (λ ss. end_so_far (stage_at ss k)) (sym stages_are))
 
     answers_are : (answers : List Answer) → AsksHandles c.handles c.table answers → answers ≡ map (λ i. answer_of (end_so_far (stage_at c.run.stages i))) (numbers_below lines)
     answers_are answers asks = fill_by_all (λ i. answer_of (end_so_far (stage_at c.run.stages i))) answers lines shown_answers.Pending (asks.each ∙ all_handles c core quiet)
         (λ k near. (let l : k < length c.handles = subst (λ n. k < n) (sym (all_handles c core quiet)) near in
         let at : slice_get c.handles k ≡ Some (slice_index_or c.handles k no_event) = slice_get-get_or c.handles k no_event l in
-        get_or_from_slice_get answers k _ shown_answers.Pending (asks.asked k (slice_index_or c.handles k no_event) (answer_for (end_so_far (stage_at c.run.stages k))) at (core.events.answers k (slice_index_or c.handles k no_event) at))
+        get_or_from_slice_get answers k _ shown_answers.Pending (asks.asked k (slice_index_or c.handles k no_event) (answer_for (end_so_far (stage_at c.run.stages k))) at ((kept_core c core).events.answers k (slice_index_or c.handles k no_event) at))
         ∙ answers_agree (end_so_far (stage_at c.run.stages k))))
 
     phases_are : map (phase_of_line c.graph c.run.stages c.run.values) (numbers_below lines) ≡ map (phase_so_far c.graph c.run) (numbers_below lines)
@@ -167,11 +169,18 @@ module _ (c : CoreValue) (core : IsCore c) (quiet : Quiet c.graph c.run) (stages
         let place : place_at c.run.places k ≡ Home x.cells = ap (λ ps. place_at ps k) places_are ∙ (place_is homes takers k (kept.each_home ∙ sym kept.each_taker) in_homes ∙ ap (λ o. place_of o (slice_index takers k)) at) in
         column_eq x (record { space = column_space c.graph k; cells = cells_at (place_at c.run.places k) }) (kept.spaces k x at) (sym (ap cells_at place))))
 
+    gives : QuietGivesOutcome → (trace : List ℕ) → ByTimes c.run trace → (faults : ℕ → Bool) → MayFault c faults → GivesOutcomeWith (effect_by faults c.graph) c.graph c.run trace
+    gives law trace by faults may = law (effect_by faults c.graph) c.graph c.run trace (core_with c core faults may).sound (stuck_with c core (length c.graph.lines) quiet faults may) by
+
     pub outcome_is : QuietGivesOutcome → (trace : List ℕ) → ByTimes c.run trace → (ends : List End) (answers : List Answer) (phases : List (Option ℕ)) (held : List ColumnValue) →
         ends ≡ map (λ p. end_so_far (shown_stage p)) stages → AsksHandles c.handles c.table answers → phases ≡ map (phase_of_line c.graph c.run.stages c.run.values) (numbers_below lines) → homes ≡ map (λ x. Some x) held →
-        outcome_with ends answers phases held trace ≡ outcome c.graph trace
-    outcome_is law trace by ends answers phases held e a p h =
-        (λ i. outcome_with ((e ∙ ends_are) i) (answers_are answers a i) ((p ∙ phases_are) i) (columns_are held h i) trace) ∙ (law c.graph c.run trace core.sound quiet by).outcome_is
+        (faults : ℕ → Bool) → MayFault c faults → outcome_of_parts ends answers phases held trace ≡ outcome_with (effect_by faults c.graph) zero_cells c.graph trace
+    outcome_is law trace by ends answers phases held e a p h faults may =
+        (λ i. outcome_of_parts ((e ∙ ends_are) i) (answers_are answers a i) ((p ∙ phases_are) i) (columns_are held h i) trace) ∙ (gives law trace by faults may).outcome_is
 
-    pub trace_lawful : QuietGivesOutcome → (trace : List ℕ) → ByTimes c.run trace → IsLawful c.graph trace
-    trace_lawful law trace by = (law c.graph c.run trace core.sound quiet by).lawful
+    pub trace_lawful : QuietGivesOutcome → (trace : List ℕ) → ByTimes c.run trace → (faults : ℕ → Bool) → MayFault c faults → IsLawfulWith (effect_by faults c.graph) c.graph trace
+    trace_lawful law trace by faults may = (gives law trace by faults may).lawful
+
+-- where there is no host, no call may fault
+pub none_may : (c : CoreValue) → c.hosted ≡ false → MayFault c (λ i. false)
+none_may c e = record { none = λ _ i. refl; told = λ i h. absurd (false≢true (sym e ∙ h)) }

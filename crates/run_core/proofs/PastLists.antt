@@ -6,13 +6,13 @@ use Rattle.std.proofs.lemmas.List.{get_or-set_same, get_or-set_other, set_past}
 use Rattle.std.proofs.lemmas.Option.{none-some}
 use Rattle.index_spaces.specs.declared.Op.{Op}
 use Rattle.graph_terms.specs.Graph.{GraphValue}
-use Rattle.graph_meaning.specs.Evaluation.{eval_end}
 use Rattle.run_state.specs.Run.{is_listed, list_at, time_at}
 use Rattle.run_state.specs.Sound.{Once}
 use Rattle.run_state.specs.WholeLine.{all_back, columns_for, arrived_with, arrival_for, freed_with}
 use Rattle.run_state.proofs.Public.{listed_here, listed_there, listed_cases, none_listed, listed_push, push_listed, once_push}
 use Rattle.run_state.proofs.Reductions.{Fresh}
 use Rattle.run_core.specs.Kept.{Past, with_line, past_from, frees}
+use Rattle.graph_terms.specs.declared.outcome.End.{End}
 
 -- ONE LINE MORE
 set_cases : (back : List (List ℕ)) (c i d k : ℕ) → is_listed (list_at (slice_set back c (i ∷ list_at back c)) d) k ≡ true → ((k ≡ i) × (d ≡ c)) ⊎ (is_listed (list_at back d) k ≡ true)
@@ -66,33 +66,33 @@ all_back_new back i (c ∷ cs) d near h = elim (listed_cases c d cs h) [
 ]
 
 -- ALL LINES OF A TRACE
-pub length-back_from : (g : GraphValue) (past : Past) (is : List ℕ) → length (past_from g past is).back ≡ length past.back
-length-back_from g past [] = refl
-length-back_from g past (j ∷ is) = length-back_from g (with_line g past j) is ∙ length-all_back past.back j (columns_for g j (eval_end g j))
+pub length-back_from : (g : GraphValue) (ends : ℕ → End) (past : Past) (is : List ℕ) → length (past_from g ends past is).back ≡ length past.back
+length-back_from g ends past [] = refl
+length-back_from g ends past (j ∷ is) = length-back_from g ends (with_line g ends past j) is ∙ length-all_back past.back j (columns_for g j (ends j))
 
-pub length-times_from : (g : GraphValue) (past : Past) (is : List ℕ) → length (past_from g past is).times ≡ length past.times
-length-times_from g past [] = refl
-length-times_from g past (j ∷ is) = length-times_from g (with_line g past j) is ∙ length-set past.times j (Some past.clock)
+pub length-times_from : (g : GraphValue) (ends : ℕ → End) (past : Past) (is : List ℕ) → length (past_from g ends past is).times ≡ length past.times
+length-times_from g ends past [] = refl
+length-times_from g ends past (j ∷ is) = length-times_from g ends (with_line g ends past j) is ∙ length-set past.times j (Some past.clock)
 
-pub back_cases : (g : GraphValue) (past : Past) (is : List ℕ) (d k : ℕ) → is_listed (list_at (past_from g past is).back d) k ≡ true → ((is_listed is k ≡ true) × (is_listed (columns_for g k (eval_end g k)) d ≡ true)) ⊎ (is_listed (list_at past.back d) k ≡ true)
-back_cases g past [] d k h = inr h
-back_cases g past (j ∷ is) d k h = elim (back_cases g (with_line g past j) is d k h) [
+pub back_cases : (g : GraphValue) (ends : ℕ → End) (past : Past) (is : List ℕ) (d k : ℕ) → is_listed (list_at (past_from g ends past is).back d) k ≡ true → ((is_listed is k ≡ true) × (is_listed (columns_for g k (ends k)) d ≡ true)) ⊎ (is_listed (list_at past.back d) k ≡ true)
+back_cases g ends past [] d k h = inr h
+back_cases g ends past (j ∷ is) d k h = elim (back_cases g ends (with_line g ends past j) is d k h) [
   | inl e ↦ inl (listed_there j k is e.0, e.1)
-  | inr r ↦ (elim (all_back_cases past.back j (columns_for g j (eval_end g j)) d k r) [
-    | inl e ↦ inl (subst (λ z. is_listed (z ∷ is) k ≡ true) e.0 (listed_here k is), subst (λ z. is_listed (columns_for g z (eval_end g z)) d ≡ true) (sym e.0) e.1)
+  | inr r ↦ (elim (all_back_cases past.back j (columns_for g j (ends j)) d k r) [
+    | inl e ↦ inl (subst (λ z. is_listed (z ∷ is) k ≡ true) e.0 (listed_here k is), subst (λ z. is_listed (columns_for g z (ends z)) d ≡ true) (sym e.0) e.1)
     | inr old ↦ inr old
   ])
 ]
 
-back_more : (g : GraphValue) (past : Past) (is : List ℕ) (d k : ℕ) → is_listed (list_at past.back d) k ≡ true → is_listed (list_at (past_from g past is).back d) k ≡ true
-back_more g past [] d k h = h
-back_more g past (j ∷ is) d k h = back_more g (with_line g past j) is d k (all_back_more past.back j (columns_for g j (eval_end g j)) d k h)
+back_more : (g : GraphValue) (ends : ℕ → End) (past : Past) (is : List ℕ) (d k : ℕ) → is_listed (list_at past.back d) k ≡ true → is_listed (list_at (past_from g ends past is).back d) k ≡ true
+back_more g ends past [] d k h = h
+back_more g ends past (j ∷ is) d k h = back_more g ends (with_line g ends past j) is d k (all_back_more past.back j (columns_for g j (ends j)) d k h)
 
-pub back_new : (g : GraphValue) (past : Past) (is : List ℕ) (d k : ℕ) → d < length past.back → is_listed is k ≡ true → is_listed (columns_for g k (eval_end g k)) d ≡ true → is_listed (list_at (past_from g past is).back d) k ≡ true
-back_new g past [] d k near h a = absurd (none_listed k h)
-back_new g past (j ∷ is) d k near h a = elim (listed_cases j k is h) [
-  | inl e ↦ back_more g (with_line g past j) is d k (subst (λ z. is_listed (list_at (all_back past.back j (columns_for g j (eval_end g j))) d) z ≡ true) (sym e) (all_back_new past.back j (columns_for g j (eval_end g j)) d near (subst (λ z. is_listed (columns_for g z (eval_end g z)) d ≡ true) e a)))
-  | inr r ↦ back_new g (with_line g past j) is d k (subst (λ n. d < n) (sym (length-all_back past.back j (columns_for g j (eval_end g j)))) near) r a
+pub back_new : (g : GraphValue) (ends : ℕ → End) (past : Past) (is : List ℕ) (d k : ℕ) → d < length past.back → is_listed is k ≡ true → is_listed (columns_for g k (ends k)) d ≡ true → is_listed (list_at (past_from g ends past is).back d) k ≡ true
+back_new g ends past [] d k near h a = absurd (none_listed k h)
+back_new g ends past (j ∷ is) d k near h a = elim (listed_cases j k is h) [
+  | inl e ↦ back_more g ends (with_line g ends past j) is d k (subst (λ z. is_listed (list_at (all_back past.back j (columns_for g j (ends j))) d) z ≡ true) (sym e) (all_back_new past.back j (columns_for g j (ends j)) d near (subst (λ z. is_listed (columns_for g z (ends z)) d ≡ true) e a)))
+  | inr r ↦ back_new g ends (with_line g ends past j) is d k (subst (λ n. d < n) (sym (length-all_back past.back j (columns_for g j (ends j)))) near) r a
 ]
 
 -- the arrivals
@@ -112,28 +112,28 @@ arrived_cases : (arrived : List ℕ) (i : ℕ) (o : Option (Op × ℕ × ℕ)) (
 arrived_cases arrived i None k h = inr h
 arrived_cases arrived i (Some a) k h = elim (listed_push arrived i k h) [ inl old ↦ inr old | inr e ↦ inl (e, a, refl) ]
 
-abbrev pub Arrives : GraphValue → ℕ → Type 0
-Arrives g k = (a : Op × ℕ × ℕ) × (arrival_for g k (eval_end g k) ≡ Some a)
+abbrev pub Arrives : GraphValue → (ℕ → End) → ℕ → Type 0
+Arrives g ends k = (a : Op × ℕ × ℕ) × (arrival_for g k (ends k) ≡ Some a)
 
-pub arrived_from_cases : (g : GraphValue) (past : Past) (is : List ℕ) (k : ℕ) → is_listed (past_from g past is).arrived k ≡ true → ((is_listed is k ≡ true) × Arrives g k) ⊎ (is_listed past.arrived k ≡ true)
-arrived_from_cases g past [] k h = inr h
-arrived_from_cases g past (j ∷ is) k h = elim (arrived_from_cases g (with_line g past j) is k h) [
+pub arrived_from_cases : (g : GraphValue) (ends : ℕ → End) (past : Past) (is : List ℕ) (k : ℕ) → is_listed (past_from g ends past is).arrived k ≡ true → ((is_listed is k ≡ true) × Arrives g ends k) ⊎ (is_listed past.arrived k ≡ true)
+arrived_from_cases g ends past [] k h = inr h
+arrived_from_cases g ends past (j ∷ is) k h = elim (arrived_from_cases g ends (with_line g ends past j) is k h) [
   | inl e ↦ inl (listed_there j k is e.0, e.1)
-  | inr r ↦ (elim (arrived_cases past.arrived j (arrival_for g j (eval_end g j)) k r) [
-    | inl e ↦ inl (subst (λ z. is_listed (z ∷ is) k ≡ true) e.0 (listed_here k is), subst (Arrives g) (sym e.0) (e.1, e.2))
+  | inr r ↦ (elim (arrived_cases past.arrived j (arrival_for g j (ends j)) k r) [
+    | inl e ↦ inl (subst (λ z. is_listed (z ∷ is) k ≡ true) e.0 (listed_here k is), subst (Arrives g ends) (sym e.0) (e.1, e.2))
     | inr old ↦ inr old
   ])
 ]
 
-arrived_from_more : (g : GraphValue) (past : Past) (is : List ℕ) (k : ℕ) → is_listed past.arrived k ≡ true → is_listed (past_from g past is).arrived k ≡ true
-arrived_from_more g past [] k h = h
-arrived_from_more g past (j ∷ is) k h = arrived_from_more g (with_line g past j) is k (arrived_more past.arrived j (arrival_for g j (eval_end g j)) k h)
+arrived_from_more : (g : GraphValue) (ends : ℕ → End) (past : Past) (is : List ℕ) (k : ℕ) → is_listed past.arrived k ≡ true → is_listed (past_from g ends past is).arrived k ≡ true
+arrived_from_more g ends past [] k h = h
+arrived_from_more g ends past (j ∷ is) k h = arrived_from_more g ends (with_line g ends past j) is k (arrived_more past.arrived j (arrival_for g j (ends j)) k h)
 
-pub arrived_from_new : (g : GraphValue) (past : Past) (is : List ℕ) (k : ℕ) → is_listed is k ≡ true → Arrives g k → is_listed (past_from g past is).arrived k ≡ true
-arrived_from_new g past [] k h a = absurd (none_listed k h)
-arrived_from_new g past (j ∷ is) k h a = elim (listed_cases j k is h) [
-  | inl e ↦ arrived_from_more g (with_line g past j) is k (subst (λ z. is_listed (arrived_with past.arrived j (arrival_for g j (eval_end g j))) z ≡ true) (sym e) (arrived_new past.arrived j (arrival_for g j (eval_end g j)) a.0 (subst (λ z. arrival_for g z (eval_end g z) ≡ Some a.0) e a.1)))
-  | inr r ↦ arrived_from_new g (with_line g past j) is k r a
+pub arrived_from_new : (g : GraphValue) (ends : ℕ → End) (past : Past) (is : List ℕ) (k : ℕ) → is_listed is k ≡ true → Arrives g ends k → is_listed (past_from g ends past is).arrived k ≡ true
+arrived_from_new g ends past [] k h a = absurd (none_listed k h)
+arrived_from_new g ends past (j ∷ is) k h a = elim (listed_cases j k is h) [
+  | inl e ↦ arrived_from_more g ends (with_line g ends past j) is k (subst (λ z. is_listed (arrived_with past.arrived j (arrival_for g j (ends j))) z ≡ true) (sym e) (arrived_new past.arrived j (arrival_for g j (ends j)) a.0 (subst (λ z. arrival_for g z (ends z) ≡ Some a.0) e a.1)))
+  | inr r ↦ arrived_from_new g ends (with_line g ends past j) is k r a
 ]
 
 -- each once, where the lines of the trace differ
@@ -141,11 +141,11 @@ once_with : (arrived : List ℕ) (j : ℕ) (o : Option (Op × ℕ × ℕ)) → O
 once_with arrived j None once new = once
 once_with arrived j (Some a) once new = once_push arrived j once (false_from_ne_true (is_listed arrived j) new)
 
-pub once_from : (g : GraphValue) (past : Past) (is : List ℕ) → Fresh is → Once past.arrived → ((k : ℕ) → is_listed past.arrived k ≡ true → is_listed is k ≡ true → ⊥) → Once (past_from g past is).arrived
-once_from g past [] fresh once apart = once
-once_from g past (j ∷ is) fresh once apart = once_from g (with_line g past j) is fresh.1
-    (once_with past.arrived j (arrival_for g j (eval_end g j)) once (λ h. apart j h (listed_here j is)))
-    (λ k h l. elim (arrived_cases past.arrived j (arrival_for g j (eval_end g j)) k h) [
+pub once_from : (g : GraphValue) (ends : ℕ → End) (past : Past) (is : List ℕ) → Fresh is → Once past.arrived → ((k : ℕ) → is_listed past.arrived k ≡ true → is_listed is k ≡ true → ⊥) → Once (past_from g ends past is).arrived
+once_from g ends past [] fresh once apart = once
+once_from g ends past (j ∷ is) fresh once apart = once_from g ends (with_line g ends past j) is fresh.1
+    (once_with past.arrived j (arrival_for g j (ends j)) once (λ h. apart j h (listed_here j is)))
+    (λ k h l. elim (arrived_cases past.arrived j (arrival_for g j (ends j)) k h) [
       | inl e ↦ true≢false (sym l ∙ (ap (is_listed is) e.0 ∙ fresh.0))
       | inr old ↦ apart k old (listed_there j k is l)
     ])
@@ -163,44 +163,44 @@ freed_cases : (freed : List ℕ) (i : ℕ) (o : Option (ℕ × ℕ)) (k : ℕ) �
 freed_cases freed i None k h = inr h
 freed_cases freed i (Some a) k h = elim (listed_cases i k freed h) [ inl e ↦ inl (e, a, refl) | inr old ↦ inr old ]
 
-abbrev pub Frees : GraphValue → ℕ → Type 0
-Frees g k = (a : ℕ × ℕ) × (frees g k ≡ Some a)
+abbrev pub Frees : GraphValue → (ℕ → End) → ℕ → Type 0
+Frees g ends k = (a : ℕ × ℕ) × (frees g ends k ≡ Some a)
 
-pub freed_from_cases : (g : GraphValue) (past : Past) (is : List ℕ) (k : ℕ) → is_listed (past_from g past is).freed k ≡ true → ((is_listed is k ≡ true) × Frees g k) ⊎ (is_listed past.freed k ≡ true)
-freed_from_cases g past [] k h = inr h
-freed_from_cases g past (j ∷ is) k h = elim (freed_from_cases g (with_line g past j) is k h) [
+pub freed_from_cases : (g : GraphValue) (ends : ℕ → End) (past : Past) (is : List ℕ) (k : ℕ) → is_listed (past_from g ends past is).freed k ≡ true → ((is_listed is k ≡ true) × Frees g ends k) ⊎ (is_listed past.freed k ≡ true)
+freed_from_cases g ends past [] k h = inr h
+freed_from_cases g ends past (j ∷ is) k h = elim (freed_from_cases g ends (with_line g ends past j) is k h) [
   | inl e ↦ inl (listed_there j k is e.0, e.1)
-  | inr r ↦ (elim (freed_cases past.freed j (frees g j) k r) [
-    | inl e ↦ inl (subst (λ z. is_listed (z ∷ is) k ≡ true) e.0 (listed_here k is), subst (Frees g) (sym e.0) (e.1, e.2))
+  | inr r ↦ (elim (freed_cases past.freed j (frees g ends j) k r) [
+    | inl e ↦ inl (subst (λ z. is_listed (z ∷ is) k ≡ true) e.0 (listed_here k is), subst (Frees g ends) (sym e.0) (e.1, e.2))
     | inr old ↦ inr old
   ])
 ]
 
-freed_from_more : (g : GraphValue) (past : Past) (is : List ℕ) (k : ℕ) → is_listed past.freed k ≡ true → is_listed (past_from g past is).freed k ≡ true
-freed_from_more g past [] k h = h
-freed_from_more g past (j ∷ is) k h = freed_from_more g (with_line g past j) is k (freed_more past.freed j (frees g j) k h)
+freed_from_more : (g : GraphValue) (ends : ℕ → End) (past : Past) (is : List ℕ) (k : ℕ) → is_listed past.freed k ≡ true → is_listed (past_from g ends past is).freed k ≡ true
+freed_from_more g ends past [] k h = h
+freed_from_more g ends past (j ∷ is) k h = freed_from_more g ends (with_line g ends past j) is k (freed_more past.freed j (frees g ends j) k h)
 
-pub freed_from_new : (g : GraphValue) (past : Past) (is : List ℕ) (k : ℕ) → is_listed is k ≡ true → Frees g k → is_listed (past_from g past is).freed k ≡ true
-freed_from_new g past [] k h a = absurd (none_listed k h)
-freed_from_new g past (j ∷ is) k h a = elim (listed_cases j k is h) [
-  | inl e ↦ freed_from_more g (with_line g past j) is k (subst (λ z. is_listed (freed_with past.freed j (frees g j)) z ≡ true) (sym e) (freed_new past.freed j (frees g j) a.0 (subst (λ z. frees g z ≡ Some a.0) e a.1)))
-  | inr r ↦ freed_from_new g (with_line g past j) is k r a
+pub freed_from_new : (g : GraphValue) (ends : ℕ → End) (past : Past) (is : List ℕ) (k : ℕ) → is_listed is k ≡ true → Frees g ends k → is_listed (past_from g ends past is).freed k ≡ true
+freed_from_new g ends past [] k h a = absurd (none_listed k h)
+freed_from_new g ends past (j ∷ is) k h a = elim (listed_cases j k is h) [
+  | inl e ↦ freed_from_more g ends (with_line g ends past j) is k (subst (λ z. is_listed (freed_with past.freed j (frees g ends j)) z ≡ true) (sym e) (freed_new past.freed j (frees g ends j) a.0 (subst (λ z. frees g ends z ≡ Some a.0) e a.1)))
+  | inr r ↦ freed_from_new g ends (with_line g ends past j) is k r a
 ]
 
 -- the lines of the trace have times
-times_more : (g : GraphValue) (past : Past) (is : List ℕ) (k t : ℕ) → time_at past.times k ≡ Some t → (u : ℕ) × (time_at (past_from g past is).times k ≡ Some u)
-times_more g past [] k t h = (t, h)
-times_more g past (j ∷ is) k t h = elim (cases_eq k j) [
+times_more : (g : GraphValue) (ends : ℕ → End) (past : Past) (is : List ℕ) (k t : ℕ) → time_at past.times k ≡ Some t → (u : ℕ) × (time_at (past_from g ends past is).times k ≡ Some u)
+times_more g ends past [] k t h = (t, h)
+times_more g ends past (j ∷ is) k t h = elim (cases_eq k j) [
   | inl same ↦ (elim (cases_lt j (length past.times)) [
-    | inl near ↦ times_more g (with_line g past j) is k past.clock (ap (λ z. slice_index_or (slice_set past.times j (Some past.clock)) z None) same ∙ get_or-set_same past.times j (Some past.clock) None near)
-    | inr far ↦ times_more g (with_line g past j) is k t (ap (λ ts. slice_index_or ts k None) (set_past past.times j (Some past.clock) far) ∙ h)
+    | inl near ↦ times_more g ends (with_line g ends past j) is k past.clock (ap (λ z. slice_index_or (slice_set past.times j (Some past.clock)) z None) same ∙ get_or-set_same past.times j (Some past.clock) None near)
+    | inr far ↦ times_more g ends (with_line g ends past j) is k t (ap (λ ts. slice_index_or ts k None) (set_past past.times j (Some past.clock) far) ∙ h)
   ])
-  | inr other ↦ times_more g (with_line g past j) is k t (get_or-set_other past.times j k (Some past.clock) None other ∙ h)
+  | inr other ↦ times_more g ends (with_line g ends past j) is k t (get_or-set_other past.times j k (Some past.clock) None other ∙ h)
 ]
 
-pub times_new : (g : GraphValue) (past : Past) (is : List ℕ) (k : ℕ) → k < length past.times → is_listed is k ≡ true → (u : ℕ) × (time_at (past_from g past is).times k ≡ Some u)
-times_new g past [] k near h = absurd (none_listed k h)
-times_new g past (j ∷ is) k near h = elim (listed_cases j k is h) [
-  | inl e ↦ times_more g (with_line g past j) is k past.clock (subst (λ z. time_at (slice_set past.times j (Some past.clock)) z ≡ Some past.clock) (sym e) (get_or-set_same past.times j (Some past.clock) None (subst (λ z. z < length past.times) e near)))
-  | inr r ↦ times_new g (with_line g past j) is k (subst (λ n. k < n) (sym (length-set past.times j (Some past.clock))) near) r
+pub times_new : (g : GraphValue) (ends : ℕ → End) (past : Past) (is : List ℕ) (k : ℕ) → k < length past.times → is_listed is k ≡ true → (u : ℕ) × (time_at (past_from g ends past is).times k ≡ Some u)
+times_new g ends past [] k near h = absurd (none_listed k h)
+times_new g ends past (j ∷ is) k near h = elim (listed_cases j k is h) [
+  | inl e ↦ times_more g ends (with_line g ends past j) is k past.clock (subst (λ z. time_at (slice_set past.times j (Some past.clock)) z ≡ Some past.clock) (sym e) (get_or-set_same past.times j (Some past.clock) None (subst (λ z. z < length past.times) e near)))
+  | inr r ↦ times_new g ends (with_line g ends past j) is k (subst (λ n. k < n) (sym (length-set past.times j (Some past.clock))) near) r
 ]

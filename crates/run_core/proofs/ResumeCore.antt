@@ -1,5 +1,5 @@
 -- The core that is resumed from the states of its lines.
-use Rattle.std.proofs.Common.{Bool, ◌≡◌, ℕ, suc, ◌<◌, ◌≤◌, true, inl, inr, List, [], ◌∷◌, map, length, refl, sym, ◌∙◌, ap, subst, arith}
+use Rattle.std.proofs.Common.{Bool, ◌≡◌, ℕ, suc, ◌<◌, ◌≤◌, true, inl, inr, List, [], ◌∷◌, map, length, refl, sym, ◌∙◌, ap, subst, arith, false}
 use Rattle.std.specs.Prelude.{Option, Some, None, slice_get, slice_index, slice_index_or}
 use Rattle.std.proofs.lemmas.Bool.{false≢true, cases_lt}
 use Rattle.std.proofs.lemmas.List.{ext_get_or, get_or-map, get_or_past, length-map}
@@ -26,7 +26,8 @@ use Rattle.run_parts.specs.declared.progress.Progress.{Progress}
 use Rattle.run_parts.specs.declared.progress.Progress.TheVariants as progress
 use Rattle.run_parts.specs.declared.states.LineState.{LineState}
 use Rattle.run_core.proofs.PlaceFacts.{place_is, length-places}
-use Rattle.run_core.proofs.ResumeFacts.{bool_same, HeldNow, held_beside, same_back, same_arrived, same_freed, same_holders, resumed_run, resumed_sound, resumed_at_rest, run_is}
+use Rattle.run_core.proofs.ResumeFacts.{bool_same, HeldNow, held_beside, same_back, same_arrived, same_freed, same_holders, resumed_run, resumed_sound, resumed_at_rest, run_is_kept}
+use Rattle.run_core.proofs.CoreFacts.{unhosted_core, kept_core}
 
 stage_over : (st : LineStage) → stage_is_over (stage_of st) ≡ stage_ended st
 stage_over Unissued = refl
@@ -203,21 +204,22 @@ module _ (c : CoreValue) (core : IsCore c) (run : Run) (handles : List Handle) (
           the_run = resumed_run c.graph run shows.sound shows.quiet trace long placed values each_value same_values (holders_by c.graph marks) each_lock held_only held_all
 
           abbrev pub the_core : CoreValue
-          the_core = record { graph = c.graph; «run» = the_run; «handles» = handles; «table» = table }
+          the_core = record { graph = c.graph; «run» = the_run; «handles» = handles; «table» = table; hosted = false }
 
           pub is_core : IsCore the_core
-          is_core = record {
+          is_core = unhosted_core the_core refl (record {
             sound = resumed_sound c.graph run shows.sound shows.quiet trace long placed values each_value same_values (holders_by c.graph marks) each_lock held_only held_all;
             at_rest = resumed_at_rest c.graph run shows.sound shows.quiet trace long placed values each_value same_values (holders_by c.graph marks) each_lock held_only held_all;
             events = shows.events;
-            slots = λ n need. subst (λ k. n ≤ k) (sym shows.slots) (core.slots n need);
-          }
+            slots = λ n need. subst (λ k. n ≤ k) (sym shows.slots) ((kept_core c core).slots n need);
+          })
 
           pub in_state : InState c.graph run handles table the_core
           in_state = record {
             graph = refl;
             handled = refl;
             tabled = refl;
+            unhosted = refl;
             stages = refl;
             times = refl;
             clock = refl;
@@ -230,18 +232,19 @@ module _ (c : CoreValue) (core : IsCore c) (run : Run) (handles : List Handle) (
           }
 
           pub core_is : (stages : List Progress) (events : EventsValue) (vs : List ℕ) → stages ≡ map progress_for lines → events ≡ record { handles = issued_handles lines; table = table } → vs ≡ map value_or_zero phases →
-              shown_core c.graph stages events homes takers vs marks trace ≡ the_core
+              shown_core false c.graph stages events homes takers vs marks trace ≡ the_core
           core_is stages events vs s e v =
-              (λ t. shown_core c.graph (s t) (e t) homes takers (v t) marks trace)
+              (λ t. shown_core false c.graph (s t) (e t) homes takers (v t) marks trace)
               ∙ (λ t. record {
                 graph = c.graph;
-                «run» = run_is c.graph run shows.sound shows.quiet trace long placed values each_value same_values (holders_by c.graph marks) each_lock held_only held_all (map shown_stage (map progress_for lines)) (places_of homes takers) same_stages same_places t;
+                «run» = run_is_kept c.graph run shows.sound shows.quiet trace long placed values each_value same_values (holders_by c.graph marks) each_lock held_only held_all (map shown_stage (map progress_for lines)) (places_of homes takers) same_stages same_places t;
                 «handles» = same_handles t;
                 «table» = table;
+                hosted = false;
               })
 
           pub resumed_is : (stages : List Progress) (events : EventsValue) (vs : List ℕ) → stages ≡ map progress_for lines → events ≡ record { handles = issued_handles lines; table = table } → vs ≡ map value_or_zero phases →
-              IsCore (shown_core c.graph stages events homes takers vs marks trace) × InState c.graph run handles table (shown_core c.graph stages events homes takers vs marks trace)
+              IsCore (shown_core false c.graph stages events homes takers vs marks trace) × InState c.graph run handles table (shown_core false c.graph stages events homes takers vs marks trace)
           resumed_is stages events vs s e v =
               let is = sym (core_is stages events vs s e v) in
               (subst IsCore is is_core, subst (InState c.graph run handles table) is in_state)

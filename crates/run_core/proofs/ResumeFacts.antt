@@ -23,14 +23,15 @@ use Rattle.run_state.specs.Run.{LineStage, Place, Run, is_listed, stage_at, time
 use Rattle.run_state.specs.Sound.{AccessesColumn, is_arrive, value_for, Once, SoundColumns, SoundPhases, SoundLocks, Sound}
 use Rattle.run_state.specs.AtRest.{AtRest}
 use Rattle.run_state.specs.WholeLine.{lock_by, lock_of, columns_for, arrival_by, arrival_for, freed_lock}
-use Rattle.run_state.proofs.Public.{listed_contains, none_listed, out_started, over_started, ended_over, out_not_ended, started_below, started_ends, column_there, got_listed, accessed_listed}
+use Rattle.run_state.proofs.Public.{listed_contains, none_listed, out_started, over_started, ended_over, out_not_ended, started_below, started_ends, column_there, got_listed, accessed_listed, kept_is, ended_started}
 use Rattle.basics.proofs.Choices.{some_is, is_some_of}
-use Rattle.run_state.proofs.PutBack.{for_listed}
+use Rattle.run_state.proofs.PutBack.{for_listed, acquire_is_ended}
 use Rattle.run_state.proofs.Reductions.{once_fresh, same_reduced}
 use Rattle.basics.proofs.ListFacts.{same_at}
-use Rattle.run_core.specs.Kept.{Past, no_past, past_of, run_by, frees_as, frees}
-use Rattle.run_core.proofs.PastFacts.{clock_from, at_time}
+use Rattle.run_core.specs.Kept.{Past, no_past, past_of, run_by, frees_as, frees, ends_so_far}
+use Rattle.run_core.proofs.PastFacts.{clock_from, at_time, past_same}
 use Rattle.run_core.proofs.PastLists.{length-back_from, length-times_from, back_cases, back_new, arrived_from_cases, arrived_from_new, once_from, Frees, freed_from_cases, freed_from_new, times_new}
+use Rattle.run_core.proofs.EndedFacts.{frees_where}
 
 no_times_long : (n : ℕ) → length (map (λ (k : ℕ). (let none : Option ℕ = None in none)) (numbers_below n)) ≡ n
 no_times_long n = length-map-range_with_len (λ (k : ℕ). (let none : Option ℕ = None in none)) 0 n
@@ -90,13 +91,13 @@ done_frees q Faulted o a e = absurd (none-some a e)
 done_frees q Cancelled o a e = absurd (none-some a e)
 done_frees q Waiting o a e = absurd (none-some a e)
 
-release_frees : (g : GraphValue) (r q : ℕ) (a : ℕ × ℕ) → Releases g r q → frees g r ≡ Some a → eval_end g q ≡ Done
-release_frees g r q a rel e = done_frees q (eval_end g q) (lock_of g q) a (ap (λ o. option_map_or (frees_as g) o None) (sym (release_is g r q rel)) ∙ e)
+release_frees : (g : GraphValue) (r q : ℕ) (a : ℕ × ℕ) → Releases g r q → frees g (eval_end g) r ≡ Some a → eval_end g q ≡ Done
+release_frees g r q a rel e = done_frees q (eval_end g q) (lock_of g q) a (ap (λ o. option_map_or (frees_as g (eval_end g)) o None) (sym (release_is g r q rel)) ∙ e)
 
-frees_done : (g : GraphValue) (r q l : ℕ) → Releases g r q → Acquires g q l → eval_end g q ≡ Done → Frees g r
+frees_done : (g : GraphValue) (r q l : ℕ) → Releases g r q → Acquires g q l → eval_end g q ≡ Done → Frees g (eval_end g) r
 frees_done g r q l rel acq done = (
   (l, q),
-  ap (λ o. option_map_or (frees_as g) o None) (release_is g r q rel)
+  ap (λ o. option_map_or (frees_as g (eval_end g)) o None) (release_is g r q rel)
       ∙ (ap (λ x. freed_lock q x (lock_of g q)) done ∙ ap (λ o. freed_lock q Done (option_map_or lock_by o None)) (acquire_is g q l acq)),
 )
 
@@ -147,7 +148,7 @@ module _ (g : GraphValue) (run : Run) (s : Sound g run) (quiet : (i : ℕ) → s
     (trace : List ℕ) (long : length trace ≡ run.clock) (placed : (i t : ℕ) → time_at run.times i ≡ Some t → slice_get trace t ≡ Some i)
   where
     abbrev past : Past
-    past = past_of g trace
+    past = past_of g (eval_end g) trace
 
     got_time : (t i : ℕ) → slice_get trace t ≡ Some i → time_at run.times i ≡ Some t
     got_time t i e =
@@ -167,31 +168,31 @@ module _ (g : GraphValue) (run : Run) (s : Sound g run) (quiet : (i : ℕ) → s
     -- the times
     times_by : (i : ℕ) (a b : Option ℕ) → time_at past.times i ≡ a → time_at run.times i ≡ b → a ≡ b
     times_by i None None ea eb = refl
-    times_by i (Some u) b ea eb = sym (got_time u i (at_time g trace i u ea)) ∙ eb
+    times_by i (Some u) b ea eb = sym (got_time u i (at_time g (eval_end g) trace i u ea)) ∙ eb
     times_by i None (Some t) ea eb =
         let below : i < length g.lines = started_below s.on_lines i (s.on_times.timed_started i (is_some_of (time_at run.times i) t eb)) in
-        let u = times_new g (no_past g) trace i (subst (λ n. i < n) (sym (no_times_long (length g.lines))) below) (got_listed trace t i (placed i t eb)) in
+        let u = times_new g (eval_end g) (no_past g) trace i (subst (λ n. i < n) (sym (no_times_long (length g.lines))) below) (got_listed trace t i (placed i t eb)) in
         absurd (none-some u.0 (sym ea ∙ u.1))
 
     pub same_times : past.times ≡ run.times
     same_times = ext_get_or None past.times run.times
-        (length-times_from g (no_past g) trace ∙ (no_times_long (length g.lines) ∙ sym s.on_times.each_time))
+        (length-times_from g (eval_end g) (no_past g) trace ∙ (no_times_long (length g.lines) ∙ sym s.on_times.each_time))
         (λ i near. times_by i (time_at past.times i) (time_at run.times i) refl refl)
 
     pub same_clock : past.clock ≡ run.clock
-    same_clock = (let e : past.clock ≡ 0 + length trace = clock_from g (no_past g) trace in let z : past.clock ≡ length trace = omega (arith, e) in z) ∙ long
+    same_clock = (let e : past.clock ≡ 0 + length trace = clock_from g (eval_end g) (no_past g) trace in let z : past.clock ≡ length trace = omega (arith, e) in z) ∙ long
 
     -- the lines put back
     long_back : length past.back ≡ length (columns g)
-    long_back = length-back_from g (no_past g) trace ∙ no_back_long (length (columns g))
+    long_back = length-back_from g (eval_end g) (no_past g) trace ∙ no_back_long (length (columns g))
 
     pub same_back : (c i : ℕ) → is_listed (list_at past.back c) i ≡ is_listed (list_at run.back c) i
     same_back c i = bool_same (is_listed (list_at past.back c) i) (is_listed (list_at run.back c) i)
-        (λ h. elim (back_cases g (no_past g) trace c i h) [
+        (λ h. elim (back_cases g (eval_end g) (no_past g) trace c i h) [
           | inl e ↦ (let f = for_listed g i (eval_end g i) c e.1 in s.on_columns.over_back c i (ended_over (stage_at run.stages i) (listed_ended i e.0)) f.1 f.0)
           | inr none ↦ absurd (none_listed i (ap (λ ks. is_listed ks i) (sym (same_at {X = List ℕ} [] (length (columns g)) c)) ∙ none))
         ])
-        (λ h. back_new g (no_past g) trace c i
+        (λ h. back_new g (eval_end g) (no_past g) trace c i
         (subst (λ n. c < n) (sym (no_back_long (length (columns g)))) (column_there s.graph i c (s.on_columns.back_accessed c i h)))
         (ended_listed i (quiet i (s.on_columns.back_started c i h)))
         (listed_for g i (eval_end g i) c (s.on_columns.back_not_cancelled c i h) (s.on_columns.back_accessed c i h)))
@@ -199,28 +200,28 @@ module _ (g : GraphValue) (run : Run) (s : Sound g run) (quiet : (i : ℕ) → s
     -- the arrivals
     pub same_arrived : (i : ℕ) → is_listed past.arrived i ≡ is_listed run.arrived i
     same_arrived i = bool_same (is_listed past.arrived i) (is_listed run.arrived i)
-        (λ h. elim (arrived_from_cases g (no_past g) trace i h) [
+        (λ h. elim (arrived_from_cases g (eval_end g) (no_past g) trace i h) [
           | inl e ↦ (let f = arrives_is g i (eval_end g i) e.1.0 e.1.1 in s.on_phases.over_arrived i (ended_over (stage_at run.stages i) (listed_ended i e.0)) f.1 f.0)
           | inr none ↦ absurd (none_listed i none)
         ])
-        (λ h. arrived_from_new g (no_past g) trace i (ended_listed i (quiet i (s.on_phases.arrived_started i h)))
+        (λ h. arrived_from_new g (eval_end g) (no_past g) trace i (ended_listed i (quiet i (s.on_phases.arrived_started i h)))
         (arrives g i (eval_end g i) (s.on_phases.arrived_not_cancelled i h) (s.on_phases.arrived_arrives i h)))
 
     once_arrived : Once past.arrived
-    once_arrived = once_from g (no_past g) trace (once_fresh trace trace_once) (λ a b i ea eb. absurd (none-some i ea)) (λ k h l. none_listed k h)
+    once_arrived = once_from g (eval_end g) (no_past g) trace (once_fresh trace trace_once) (λ a b i ea eb. absurd (none-some i ea)) (λ k h l. none_listed k h)
 
     -- the releases
     freed_ended : (r : ℕ) → is_listed past.freed r ≡ true → ended run.stages r ≡ true
-    freed_ended r h = elim (freed_from_cases g (no_past g) trace r h) [ inl e ↦ listed_ended r e.0 | inr none ↦ absurd (none_listed r none) ]
+    freed_ended r h = elim (freed_from_cases g (eval_end g) (no_past g) trace r h) [ inl e ↦ listed_ended r e.0 | inr none ↦ absurd (none_listed r none) ]
 
     pub same_freed : (r q : ℕ) → Releases g r q → is_listed past.freed r ≡ is_listed run.freed r
     same_freed r q rel = bool_same (is_listed past.freed r) (is_listed run.freed r)
-        (λ h. elim (freed_from_cases g (no_past g) trace r h) [
+        (λ h. elim (freed_from_cases g (eval_end g) (no_past g) trace r h) [
           | inl e ↦ s.on_locks.ended_freed r q rel (listed_ended r e.0) (release_frees g r q e.1.0 rel e.1.1)
           | inr none ↦ absurd (none_listed r none)
         ])
         (λ h. let a = release_names g s.graph r q rel in
-        freed_from_new g (no_past g) trace r (ended_listed r (quiet r (over_started (stage_at run.stages r) (s.on_locks.freed_over r h)))) (frees_done g r q a.0 rel a.1 (s.on_locks.freed_done r q rel h)))
+        freed_from_new g (eval_end g) (no_past g) trace r (ended_listed r (quiet r (over_started (stage_at run.stages r) (s.on_locks.freed_over r h)))) (frees_done g r q a.0 rel a.1 (s.on_locks.freed_done r q rel h)))
 
     module _ (values : List ℕ) (each_value : length values ≡ length g.lines) (same_values : (p b : ℕ) → verb_at g p ≡ Some (Phase b) → slice_index values p ≡ slice_index run.values p)
         (holders : List (List ℕ)) (each_lock : length holders ≡ length (locks g)) (only : (l q : ℕ) → is_listed (list_at holders l) q ≡ true → HeldNow g run q l) (all : (l q : ℕ) → HeldNow g run q l → is_listed (list_at holders l) q ≡ true)
@@ -291,7 +292,7 @@ module _ (g : GraphValue) (run : Run) (s : Sound g run) (quiet : (i : ℕ) → s
         }
 
         pub resumed_sound : Sound g resumed_run
-        resumed_sound = record { graph = s.graph; accepted = s.accepted; on_lines = s.on_lines; on_columns = sound_columns; on_phases = sound_phases; on_locks = sound_locks; on_times = s.on_times }
+        resumed_sound = record { graph = s.graph; accepted = s.accepted; keeps = s.keeps; on_lines = s.on_lines; on_columns = sound_columns; on_phases = sound_phases; on_locks = sound_locks; on_times = s.on_times }
 
         not_out : (i : ℕ) → out run.stages i ≡ true → ⊥
         not_out i o = true≢false (sym (quiet i (out_started (stage_at run.stages i) o)) ∙ out_not_ended (stage_at run.stages i) o)
@@ -319,3 +320,17 @@ module _ (g : GraphValue) (run : Run) (s : Sound g run) (quiet : (i : ℕ) → s
           «holders» = holders;
           freed = past.freed;
         }
+
+        -- the same by the ends that are kept
+        kept_end_is : (k : ℕ) → ended run.stages k ≡ true → ends_so_far run.stages k ≡ eval_end g k
+        kept_end_is k e = kept_is s.on_lines k (ended_over (stage_at run.stages k) e)
+
+        past_kept : past_of g (ends_so_far run.stages) trace ≡ past
+        past_kept = past_same g (ends_so_far run.stages) (eval_end g) (no_past g) trace (λ k h. (
+          kept_end_is k (listed_ended k h),
+          frees_where g (ends_so_far run.stages) (eval_end g) k (λ q rel. kept_end_is q (acquire_is_ended s k q rel (ended_started run.stages k (listed_ended k h)))),
+        ))
+
+        pub run_is_kept : (stages : List LineStage) (places : List Place) → stages ≡ run.stages → places ≡ run.places → run_by (past_of g (ends_so_far stages) trace) stages places values holders ≡ resumed_run
+        run_is_kept stages places es ep = ap (λ ss. run_by (past_of g (ends_so_far ss) trace) ss places values holders) es
+            ∙ (ap (λ p. run_by p run.stages places values holders) past_kept ∙ run_is run.stages places refl ep)

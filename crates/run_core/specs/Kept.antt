@@ -7,7 +7,7 @@ use Rattle.index_spaces.specs.Column.{ColumnValue}
 use Rattle.graph_terms.specs.declared.verb.Verb.{Verb}
 use Rattle.graph_terms.specs.declared.verb.Verb.TheVariants.{Release}
 use Rattle.graph_terms.specs.Graph.{GraphValue, columns, column_space, verb_at}
-use Rattle.graph_meaning.specs.Evaluation.{eval_end}
+use Rattle.graph_terms.specs.declared.outcome.End.{End}
 use Rattle.run_state.specs.Run.{LineStage, Unissued, Issued, Out, Ended, Place, Home, Had, Run, stage_at, end_so_far}
 use Rattle.run_state.specs.WholeLine.{lock_of, all_back, columns_for, arrived_with, arrival_by, arrival_for, freed_lock, freed_with}
 use Rattle.run_core.specs.Core.{CoreValue}
@@ -55,37 +55,37 @@ no_past g = record {
   freed = [];
 }
 
--- what a release frees, by the end of its acquire in the evaluation
-abbrev pub frees_as : GraphValue → Verb → Option (ℕ × ℕ)
-frees_as g (Release q) = freed_lock q (eval_end g q) (lock_of g q)
-frees_as g _ = None
+-- what a release frees, where lines ended so
+abbrev pub frees_as : GraphValue → (ℕ → End) → Verb → Option (ℕ × ℕ)
+frees_as g ends (Release q) = freed_lock q (ends q) (lock_of g q)
+frees_as g ends _ = None
 
--- and by the end that the run keeps of it
-abbrev pub frees_so_far : GraphValue → List LineStage → Verb → Option (ℕ × ℕ)
-frees_so_far g stages (Release q) = freed_lock q (end_so_far (stage_at stages q)) (lock_of g q)
-frees_so_far g stages _ = None
+abbrev pub frees : GraphValue → (ℕ → End) → ℕ → Option (ℕ × ℕ)
+frees g ends i = option_map_or (frees_as g ends) (verb_at g i) None
+
+-- the ends that the run keeps, and what a release frees by them
+abbrev pub ends_so_far : List LineStage → ℕ → End
+ends_so_far stages i = end_so_far (stage_at stages i)
 
 abbrev pub frees_in : GraphValue → List LineStage → ℕ → Option (ℕ × ℕ)
-frees_in g stages i = option_map_or (frees_so_far g stages) (verb_at g i) None
+frees_in g stages i = frees g (ends_so_far stages) i
 
-abbrev pub frees : GraphValue → ℕ → Option (ℕ × ℕ)
-frees g i = option_map_or (frees_as g) (verb_at g i) None
-
-abbrev pub with_line : GraphValue → Past → ℕ → Past
-with_line g past i = record {
+-- one line more, where lines ended so
+abbrev pub with_line : GraphValue → (ℕ → End) → Past → ℕ → Past
+with_line g ends past i = record {
   times = slice_set past.times i (Some past.clock);
   clock = past.clock + 1;
-  back = all_back past.back i (columns_for g i (eval_end g i));
-  arrived = arrived_with past.arrived i (arrival_for g i (eval_end g i));
-  freed = freed_with past.freed i (frees g i);
+  back = all_back past.back i (columns_for g i (ends i));
+  arrived = arrived_with past.arrived i (arrival_for g i (ends i));
+  freed = freed_with past.freed i (frees g ends i);
 }
 
-abbrev pub past_from : GraphValue → Past → List ℕ → Past
-past_from g past [] = past
-past_from g past (i ∷ is) = past_from g (with_line g past i) is
+abbrev pub past_from : GraphValue → (ℕ → End) → Past → List ℕ → Past
+past_from g ends past [] = past
+past_from g ends past (i ∷ is) = past_from g ends (with_line g ends past i) is
 
-abbrev pub past_of : GraphValue → List ℕ → Past
-past_of g trace = past_from g (no_past g) trace
+abbrev pub past_of : GraphValue → (ℕ → End) → List ℕ → Past
+past_of g ends trace = past_from g ends (no_past g) trace
 
 abbrev pub run_by : Past → List LineStage → List Place → List ℕ → List (List ℕ) → Run
 run_by past stages places values holders = record {
@@ -105,12 +105,13 @@ abbrev pub arrival_of : GraphValue → ℕ → Option (Op × ℕ × ℕ)
 arrival_of g i = option_map_or (arrival_by g) (verb_at g i) None
 
 -- the core that is shown
-abbrev pub shown_core : GraphValue → List Progress → EventsValue → List (Option ColumnValue) → List ℕ → List ℕ → List Bool → List ℕ → CoreValue
-shown_core g stages events homes takers values holding trace = record {
+abbrev pub shown_core : Bool → GraphValue → List Progress → EventsValue → List (Option ColumnValue) → List ℕ → List ℕ → List Bool → List ℕ → CoreValue
+shown_core hosted g stages events homes takers values holding trace = record {
   graph = g;
-  run = run_by (past_of g trace) (map shown_stage stages) (places_of homes takers) values (holders_by g holding);
+  run = run_by (past_of g (ends_so_far (map shown_stage stages)) trace) (map shown_stage stages) (places_of homes takers) values (holders_by g holding);
   handles = events.handles;
   table = events.table;
+  «hosted» = hosted;
 }
 
 -- what holds besides of the columns

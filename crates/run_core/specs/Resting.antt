@@ -9,7 +9,7 @@ use Rattle.run_core.specs.declared.run.rest.Resting.{Resting}
 
 -- the core that it is with this graph
 abbrev pub core_by : GraphValue → Resting → CoreValue
-core_by g r = shown_core g r.stages.items r.events r.columns.homes r.columns.takers.items r.values.items r.holders.holding.items r.trace.items
+core_by g r = shown_core r.hosted g r.stages.items r.events r.columns.homes r.columns.takers.items r.values.items r.holders.holding.items r.trace.items
 
 -- with this graph it is a core, with room for what its end needs
 pub record RestsBy (g : GraphValue) (r : Resting) : Type 0 where

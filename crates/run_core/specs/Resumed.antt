@@ -1,14 +1,14 @@
 -- The state from which a core is resumed: what the states of the lines show, and the core that is in it.
-use Rattle.std.specs.Prelude.{◌≡◌, ◌≢◌, ◌<◌, ℕ, Bool, true, false, List, length, IsTrue, Option, Some, None, slice_get, slice_index, slice_index_or, filter_map}
+use Rattle.std.specs.Prelude.{◌≡◌, ◌≢◌, ◌<◌, ℕ, Bool, true, false, List, length, IsTrue, Option, Some, None, slice_index, filter_map}
 use Rattle.index_spaces.specs.Column.{ColumnValue}
 use Rattle.graph_terms.specs.declared.outcome.End.{End}
-use Rattle.graph_terms.specs.declared.outcome.End.TheVariants.{Done, Waiting}
+use Rattle.graph_terms.specs.declared.outcome.End.TheVariants.{Done}
 use Rattle.graph_terms.specs.declared.verb.Verb.TheVariants.{Phase}
-use Rattle.graph_terms.specs.Graph.{GraphValue, columns, column_space, verb_at}
+use Rattle.graph_terms.specs.Graph.{GraphValue, verb_at}
 use Rattle.graph_terms.specs.Reservations.{Acquires, Releases, both_shared}
 use Rattle.event_table.specs.declared.handle.Handle.{Handle}
-use Rattle.event_table.specs.EventMap.{EventMap, no_event, IsFree}
-use Rattle.run_state.specs.Run.{Home, Run, is_listed, stage_at, time_at, place_at, list_at, end_so_far, started, ended}
+use Rattle.event_table.specs.EventMap.{EventMap, IsFree}
+use Rattle.run_state.specs.Run.{Run, is_listed, list_at, started, ended}
 use Rattle.run_state.specs.Sound.{Sound}
 use Rattle.run_parts.specs.declared.answers.Stage.{Stage}
 use Rattle.run_parts.specs.declared.answers.Stage.TheVariants as stages
@@ -18,7 +18,6 @@ use Rattle.run_parts.specs.declared.states.LineState.{LineState}
 use Rattle.run_parts.specs.LineEvents.{AreEvents}
 use Rattle.run_parts.specs.Shown.{state_at, LinesShow, HomesShow, PhasesShow}
 use Rattle.run_core.specs.Core.{CoreValue}
-use Rattle.run_parts.specs.Shown.{stage_of}
 
 -- WHAT IS READ OF A STATE: how far the line has come, whether it has ended, its handle where it is issued
 abbrev pub progress_by : Stage → End → Progress
@@ -82,11 +81,12 @@ pub record ShowState (c : CoreValue) (run : Run) (handles : List Handle) (lines 
   pub slots : length table.slots ≡ length c.table.slots
   pub free : (k : ℕ) → k < table.waiters → IsFree table k
 
--- THE CORE THAT IS IN IT. What it lists may stand in another order
+-- THE CORE THAT IS IN IT, without a host. What it lists may stand in another order
 pub record InState (g : GraphValue) (run : Run) (handles : List Handle) (table : EventMap) (c : CoreValue) : Type 0 where
   pub graph : c.graph ≡ g
   pub handled : c.handles ≡ handles
   pub tabled : c.table ≡ table
+  pub unhosted : c.hosted ≡ false
   pub stages : c.run.stages ≡ run.stages
   pub times : c.run.times ≡ run.times
   pub clock : c.run.clock ≡ run.clock

@@ -4,14 +4,14 @@ use Rattle.graph_terms.specs.declared.outcome.End.{End}
 use Rattle.graph_terms.specs.declared.outcome.End.TheVariants.{Done, Faulted, Cancelled, Waiting}
 use Rattle.graph_terms.specs.Graph.{GraphValue, never_comes}
 use Rattle.graph_terms.specs.Reservations.{Acquires, both_shared}
-use Rattle.graph_meaning.specs.Evaluation.{eval_end}
 use Rattle.event_table.specs.declared.handle.Handle.{Handle}
 use Rattle.event_table.specs.declared.handle.Fate.{Fate}
 use Rattle.event_table.specs.declared.handle.Fate.TheVariants.{Ok, Poison}
 use Rattle.event_table.specs.EventMap.{no_event, created_at, placed_on, ended_with, next_handle, MayServe, IsFull, IsFree, Gives}
-use Rattle.run_state.specs.Run.{LineStage, Unissued, Issued, Out, Ending, Ended, Place, Had, Run, is_listed, stage_at, place_at, list_at, ended}
+use Rattle.run_state.specs.Run.{LineStage, Issued, Place, Had, Run, is_listed, stage_at, place_at, list_at, ended}
 use Rattle.run_state.specs.Sound.{AccessesColumn, IsOpenTo}
 use Rattle.run_state.specs.Moves.{issue, claim}
+use Rattle.run_state.specs.Quiet.{kept_cancels}
 use Rattle.run_state.specs.WholeLine.{column_list, take_whole, put_back_whole}
 use Rattle.run_parts.specs.LineEvents.{WaitsFor}
 use Rattle.run_parts.specs.Shown.{stage_of}
@@ -19,8 +19,6 @@ use Rattle.run_core.specs.Core.{CoreValue}
 use Rattle.run_core.specs.Works.{WorkValue, FinishedValue, IsWork, cells_in}
 use Rattle.run_parts.specs.declared.answers.Issue.{Issue as IssueAnswer}
 use Rattle.run_parts.specs.declared.answers.Issue.TheVariants as issues
-use Rattle.run_parts.specs.declared.answers.Stage.{Stage}
-use Rattle.run_parts.specs.declared.answers.Stage.TheVariants as stages
 use Rattle.run_parts.specs.declared.answers.Thing.{Thing}
 use Rattle.run_parts.specs.declared.answers.Thing.TheVariants as things
 use Rattle.run_core.specs.declared.answers.Attempt.{Attempt}
@@ -33,6 +31,7 @@ with_issue c h = record {
   run = issue c.run (length c.handles);
   handles = c.handles ++ h ∷ [];
   table = created_at c.table h.slot;
+  hosted = c.hosted;
 }
 
 -- a line is left to issue
@@ -96,14 +95,14 @@ pub record StandsBy (old new : CoreValue) (i j : ℕ) : Type 0 where
   pub busy : (IsFree old.table i → ⊥) → new ≡ old
   pub either : (new ≡ old) ⊎ ((h : Handle) × (slice_get old.handles j ≡ Some h) × (new ≡ record old { table = placed_on old.table h i }))
 
--- the line is out, and this is its work. One that is cancelled takes nothing
+-- the line is out, and this is its work. One that its sources cancel, by the ends that are kept of them, takes nothing
 abbrev pub with_run : CoreValue → Run → CoreValue
-with_run c run = record { graph = c.graph; «run» = run; handles = c.handles; table = c.table }
+with_run c run = record { graph = c.graph; «run» = run; handles = c.handles; table = c.table; hosted = c.hosted }
 
 pub record Takes (old new : CoreValue) (w : WorkValue) : Type 0 where
   pub due : IsDue old.graph old.run w.line
-  pub claimed : eval_end old.graph w.line ≡ Cancelled → new ≡ with_run old (claim old.run w.line)
-  pub taken : eval_end old.graph w.line ≢ Cancelled → HasLock old.graph old.run.holders w.line × HasColumns old.graph old.run.places w.line × (new ≡ with_run old (take_whole old.graph old.run w.line))
+  pub claimed : kept_cancels old.graph old.run.stages w.line ≡ true → new ≡ with_run old (claim old.run w.line)
+  pub taken : kept_cancels old.graph old.run.stages w.line ≡ false → HasLock old.graph old.run.holders w.line × HasColumns old.graph old.run.places w.line × (new ≡ with_run old (take_whole old.graph old.run w.line))
   pub work : IsWork new w
 
 -- what an attempt answers, and what it does
@@ -111,7 +110,7 @@ abbrev pub Attempts : CoreValue → CoreValue → ℕ → Attempt → Type 0
 Attempts old new i (attempts.Over s) = (stage_at old.run.stages i ≢ Issued) × (s ≡ stage_of (stage_at old.run.stages i)) × (new ≡ old)
 Attempts old new i attempts.Never = (stage_at old.run.stages i ≡ Issued) × (never_comes old.graph i ≡ true) × (new ≡ old)
 Attempts old new i (attempts.NotYet j) = (stage_at old.run.stages i ≡ Issued) × (never_comes old.graph i ≡ false) × IsLeastLeft old.graph old.run.stages i j × StandsBy old new i j
-Attempts old new i (attempts.Busy thing) = IsDue old.graph old.run i × (eval_end old.graph i ≢ Cancelled) × IsHeldBy old.graph old.run i thing × (new ≡ old)
+Attempts old new i (attempts.Busy thing) = IsDue old.graph old.run i × (kept_cancels old.graph old.run.stages i ≡ false) × IsHeldBy old.graph old.run i thing × (new ≡ old)
 Attempts old new i (attempts.Taken w) = (w.line ≡ i) × Takes old new w
 
 -- PUTTING BACK. The fate of the handle of a line that ends so
@@ -131,8 +130,9 @@ with_end c f = record {
   run = put_back_whole c.graph c.run f.line f.ends (cells_in f.held);
   handles = c.handles;
   table = ended_with c.table (handle_at c f.line) (fate_for f.ends);
+  hosted = c.hosted;
 }
 
 -- WAKING. A line that was caught is given, and is free again
 abbrev pub Wakes : CoreValue → ℕ → CoreValue → Type 0
-Wakes old i new = Gives old.table i new.table × (new.graph ≡ old.graph) × (new.run ≡ old.run) × (new.handles ≡ old.handles)
+Wakes old i new = Gives old.table i new.table × (new.graph ≡ old.graph) × (new.run ≡ old.run) × (new.handles ≡ old.handles) × (new.hosted ≡ old.hosted)

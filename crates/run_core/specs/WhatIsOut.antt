@@ -6,14 +6,16 @@ use Rattle.run_core.specs.Core.{CoreValue}
 use Rattle.run_core.specs.declared.answers.Attempt.{Attempt}
 use Rattle.run_core.specs.declared.answers.Attempt.TheVariants as attempts
 
--- the same lines as before, and of the same graph
+-- the same lines as before, of the same graph and the same host
 pub record SameOut (old new : CoreValue) : Type 0 where
   pub graph : new.graph ≡ old.graph
+  pub hosted : new.hosted ≡ old.hosted
   pub same : (k : ℕ) → out new.run.stages k ≡ out old.run.stages k
 
 -- this line, and those that were out before
 pub record OneMoreOut (old new : CoreValue) (i : ℕ) : Type 0 where
   pub graph : new.graph ≡ old.graph
+  pub hosted : new.hosted ≡ old.hosted
   pub before : out old.run.stages i ≡ false
   pub after : out new.run.stages i ≡ true
   pub others : (k : ℕ) → k ≢ i → out new.run.stages k ≡ out old.run.stages k

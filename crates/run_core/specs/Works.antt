@@ -1,5 +1,5 @@
 -- The work of a line that was taken, and what it leaves when it is done.
-use Rattle.std.specs.Prelude.{◌≡◌, ◌≢◌, ℕ, ◌↔◌, Bool, true, false, List, [], Some, None}
+use Rattle.std.specs.Prelude.{◌≡◌, ◌≢◌, ℕ, ◌↔◌, Bool, true, false, cond, List, [], Some, None}
 use Rattle.std.specs.Option.{option_map_or}
 use Rattle.index_spaces.specs.Column.{ColumnValue}
 use Rattle.index_spaces.specs.Held.{held_at}
@@ -8,11 +8,13 @@ use Rattle.graph_terms.specs.declared.outcome.End.TheVariants.{Done, Faulted, Ca
 use Rattle.graph_terms.specs.declared.outcome.Verdict.{Verdict}
 use Rattle.graph_terms.specs.declared.outcome.Verdict.TheVariants.{Fine, Fault}
 use Rattle.graph_terms.specs.Graph.{column_space}
-use Rattle.graph_meaning.specs.Evaluation.{eval_end, column_of}
+use Rattle.graph_meaning.specs.Effect.{Effects, zero_cells}
+use Rattle.graph_meaning.specs.Evaluation.{end_with, column_of}
 use Rattle.run_state.specs.Run.{Out, stage_at, list_at}
 use Rattle.run_state.specs.Sound.{AccessesColumn}
-use Rattle.run_state.specs.Work.{cells_now, put_cells}
-use Rattle.run_core.specs.Core.{CoreValue}
+use Rattle.run_state.specs.Work.{cells_now_with, put_cells_with}
+use Rattle.run_state.specs.Verdicts.{effect_by}
+use Rattle.run_core.specs.Core.{CoreValue, TellsOf, MayFault}
 
 -- the line, whether it is cancelled, and the columns that it holds
 pub record WorkValue : Type 0 where
@@ -35,26 +37,44 @@ abbrev pub HoldsNothing : List (ℕ × ColumnValue) → Type 0
 HoldsNothing held = (k : ℕ) → held_at held k ≡ None
 
 -- a column as the lines leave it that were put back on it
-abbrev pub column_now : CoreValue → ℕ → ColumnValue
-column_now c k = column_of c.graph (cells_now c.graph c.run) k
+abbrev pub column_now : Effects → CoreValue → ℕ → ColumnValue
+column_now does c k = column_of c.graph (cells_now_with does c.graph c.run) k
 
 -- and as line i leaves it after them
-abbrev pub column_left : CoreValue → ℕ → ℕ → ColumnValue
-column_left c i k = record { space = column_space c.graph k; cells = put_cells c.graph i (list_at c.run.back k) k }
+abbrev pub column_left : Effects → CoreValue → ℕ → ℕ → ColumnValue
+column_left does c i k = record { space = column_space c.graph k; cells = put_cells_with does c.graph i (list_at c.run.back k) k }
 
--- it is the work of a line of this core that is out: it holds nothing where the line is cancelled in the evaluation, else exactly the line's columns
-pub record IsWork (c : CoreValue) (w : WorkValue) : Type 0 where
+-- where the lines do so it is the work of a line of this core that is out: it holds nothing where the line is cancelled in the evaluation, else
+-- exactly the line's columns
+pub record IsWorkWith (does : Effects) (c : CoreValue) (w : WorkValue) : Type 0 where
   pub is_out : stage_at c.run.stages w.line ≡ Out
-  pub cancelled : (w.is_cancelled ≡ true) ↔ (eval_end c.graph w.line ≡ Cancelled)
+  pub cancelled : (w.is_cancelled ≡ true) ↔ (end_with does zero_cells c.graph w.line ≡ Cancelled)
   pub nothing : w.is_cancelled ≡ true → HoldsNothing w.held
-  pub holds : w.is_cancelled ≡ false → HoldsColumns c w.line w.held (column_now c)
+  pub holds : w.is_cancelled ≡ false → HoldsColumns c w.line w.held (column_now does c)
+
+-- it is so whichever calls may fault
+abbrev pub IsWork : CoreValue → WorkValue → Type 0
+IsWork c w = (faults : ℕ → Bool) → MayFault c faults → IsWorkWith (effect_by faults c.graph) c w
+
+-- its line is out
+abbrev pub WorkIsOut : Type 0
+WorkIsOut = (c : CoreValue) (w : WorkValue) → IsWork c w → stage_at c.run.stages w.line ≡ Out
 
 -- it is what such a line leaves: its end is that of the evaluation, and its columns are changed as in the evaluation
+pub record IsFinishedWith (does : Effects) (c : CoreValue) (f : FinishedValue) : Type 0 where
+  pub is_out : stage_at c.run.stages f.line ≡ Out
+  pub is_end : end_with does zero_cells c.graph f.line ≡ f.ends
+  pub nothing : f.ends ≡ Cancelled → HoldsNothing f.held
+  pub holds : f.ends ≢ Cancelled → HoldsColumns c f.line f.held (column_left does c f.line)
+
+-- it is so whichever calls may fault besides what this end tells
 pub record IsFinished (c : CoreValue) (f : FinishedValue) : Type 0 where
   pub is_out : stage_at c.run.stages f.line ≡ Out
-  pub is_end : eval_end c.graph f.line ≡ f.ends
-  pub nothing : f.ends ≡ Cancelled → HoldsNothing f.held
-  pub holds : f.ends ≢ Cancelled → HoldsColumns c f.line f.held (column_left c f.line)
+  pub evaluated : (faults : ℕ → Bool) → MayFault c faults → TellsOf c f.line f.ends faults → IsFinishedWith (effect_by faults c.graph) c f
+
+-- the verdict of a line: that of the host for a call, its own for another
+abbrev pub verdict_by : Bool → Verdict → Verdict → Verdict
+verdict_by calls said own = cond calls said own
 
 -- the verdict of a line that ends so
 abbrev pub verdict_of : End → Verdict

@@ -29,7 +29,8 @@ pub(crate) mod rest;
 mod resume;
 mod take;
 
-/// The core of a run of a graph that was accepted. Nothing but `prepare` takes memory.
+/// The core of a run of a graph that was accepted. Nothing takes memory but `prepare` and
+/// `prepare_for_host`.
 #[derive(Drop)]
 pub struct Core<'g> {
     checked: &'g Checked,
@@ -42,6 +43,8 @@ pub struct Core<'g> {
     // The ended lines, in the order in which they ended.
     trace: Vec<u32>,
     room: OutcomeRoom,
+    // Whether a host may say of calls that they faulted.
+    hosted: bool,
 }
 
 impl<'g> Model for Core<'g> {
@@ -53,11 +56,11 @@ impl<'g> Model for Core<'g> {
 
     ghost Value = { CoreValue };
 
-    ghost view = { λ a. shown_core a.checked.now.graph a.stages.items a.events a.columns.homes
+    ghost view = { λ a. shown_core a.hosted a.checked.now.graph a.stages.items a.events a.columns.homes
         a.columns.takers.items a.values.items a.holders.holding.items a.trace.items };
 
     ghost invariant = { λ a. record {
-      core : IsCore (shown_core a.checked.now.graph a.stages.items a.events a.columns.homes
+      core : IsCore (shown_core a.hosted a.checked.now.graph a.stages.items a.events a.columns.homes
           a.columns.takers.items a.values.items a.holders.holding.items a.trace.items);
       kept : AreKept a.checked.now.graph a.columns.homes a.columns.takers.items;
       held : AreHeld a.checked.now.graph a.holders.holding.items a.holders.held.items;
@@ -70,7 +73,7 @@ impl<'g> Model for Core<'g> {
 
 impl<'g> Core<'g> {
     ghost use Rattle.std.specs.Prelude.{◌≡◌, ℕ, ◌≤◌, IfOk};
-    ghost use Rattle.run_core.specs.Core.{unissued, slots_given, IsCore};
+    ghost use Rattle.run_core.specs.Core.{unissued, unissued_for_host, unissued_by, slots_given, IsCore};
     ghost use Rattle.run_core.specs.Steps.{IsLeft};
     ghost use Rattle.event_table.specs.EventMap.{IsRetired};
     ghost use Rattle.run_core.specs.Finishing.{NothingOut};
@@ -81,6 +84,37 @@ impl<'g> Core<'g> {
         requires enough { checked.now.need ≤ slots }
         requires most { slots ≤ MAX_SLOTS }
         ensures core { IfOk result (λ core. core ≡ unissued checked.now.graph slots) }
+        ensures slots { IfOk result (λ core. slots_given core ≡ slots) }
+        ensures nothing_out { IfOk result (λ core. NothingOut core) }
+    {
+        Core::prepare_by(alloc, checked, slots, false)
+    }
+
+    /// The same, where a host may say of the calls of the graph that they faulted.
+    pub fn prepare_for_host(
+        alloc: Global,
+        checked: &'g Checked,
+        slots: u32,
+    ) -> Result<Core<'g>, NoMemory>
+        requires enough { checked.now.need ≤ slots }
+        requires most { slots ≤ MAX_SLOTS }
+        ensures core { IfOk result (λ core. core ≡ unissued_for_host checked.now.graph slots) }
+        ensures slots { IfOk result (λ core. slots_given core ≡ slots) }
+        ensures nothing_out { IfOk result (λ core. NothingOut core) }
+    {
+        Core::prepare_by(alloc, checked, slots, true)
+    }
+
+    /// A core in which no line is issued, with a host or without.
+    fn prepare_by(
+        alloc: Global,
+        checked: &'g Checked,
+        slots: u32,
+        hosted: bool,
+    ) -> Result<Core<'g>, NoMemory>
+        requires enough { checked.now.need ≤ slots }
+        requires most { slots ≤ MAX_SLOTS }
+        ensures core { IfOk result (λ core. core ≡ unissued_by hosted checked.now.graph slots) }
         ensures slots { IfOk result (λ core. slots_given core ≡ slots) }
         ensures nothing_out { IfOk result (λ core. NothingOut core) }
     {
@@ -119,6 +153,7 @@ impl<'g> Core<'g> {
             holders: Holders::none(graph, holding, held),
             trace,
             room: outcome,
+            hosted,
         })
     }
 

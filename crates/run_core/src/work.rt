@@ -1,11 +1,14 @@
 //! The work of a line that was taken.
 
-ghost use Rattle.std.specs.Prelude.{◌≡◌, true};
+ghost use Rattle.std.specs.Prelude.{◌≡◌, ◌<◌, true, length};
+ghost use Rattle.graph_terms.specs.Graph.{is_call, line_passes};
+ghost use Rattle.run_core.specs.Works.{verdict_by};
 ghost use Rattle.graph_meaning.specs.Effect.{effect};
 ghost use Rattle.graph_meaning.specs.Evaluation.{end_by};
 
 use graph_model::graph::Graph;
 use graph_terms::outcome::{End, Verdict};
+use graph_terms::verb::Verb;
 use index_spaces::held::Held;
 use line_effects::effects::apply;
 use run_state::laws::{work_gives_cells, work_is_as_evaluated};
@@ -45,9 +48,11 @@ impl Model for Finished {
 }
 
 impl Work {
-    ghost use Rattle.std.specs.Prelude.{◌≡◌, ◌≢◌, Bool, List};
+    ghost use Rattle.std.specs.Prelude.{◌≡◌, ◌≢◌, Bool, true, false, List};
     ghost use Rattle.graph_terms.specs.declared.outcome.End.TheVariants.{Cancelled};
     ghost use Rattle.graph_meaning.specs.Evaluation.{eval_end};
+    ghost use Rattle.graph_terms.specs.declared.outcome.Verdict.TheVariants.{Fine};
+    ghost use Rattle.graph_terms.specs.Graph.{is_call, line_passes};
     ghost use Rattle.run_core.specs.Core.{CoreValue, IsCore};
     ghost use Rattle.run_core.specs.Works.{IsWork, IsFinished, verdict_of};
 
@@ -76,12 +81,33 @@ impl Work {
         self.is_cancelled
     }
 
-    /// Does the line's effect on the columns that it holds. The graph is that of the core from which
-    /// the work was taken.
+    /// Does the line's effect on the columns that it holds. A call is done. The graph is that of the
+    /// core from which the work was taken.
     pub fn perform(self, graph: &Graph) -> Finished
         requires work { (c : CoreValue) × IsCore c × (c.graph ≡ graph.now) × IsWork c self }
         ensures line { result.line ≡ self.line }
         ensures finished { (c : CoreValue) → IsCore c → c.graph ≡ graph.now → IsWork c self → IsFinished c result }
+    {
+        self.perform_by(graph, Verdict::Fine)
+    }
+
+    /// The same, but that a call which is not cancelled ends as the host says: Faulted where the verdict
+    /// is a fault. The core is one that was prepared for a host.
+    pub fn perform_with(self, graph: &Graph, verdict: Verdict) -> Finished
+        requires work { (c : CoreValue) × IsCore c × (c.hosted ≡ true) × (c.graph ≡ graph.now) × IsWork c self }
+        ensures line { result.line ≡ self.line }
+        ensures said { self.is_cancelled ≡ false → line_passes is_call graph.now self.line ≡ true → result.ends ≡ end_by verdict }
+        ensures finished { (c : CoreValue) → IsCore c → c.hosted ≡ true → c.graph ≡ graph.now → IsWork c self → IsFinished c result }
+    {
+        self.perform_by(graph, verdict)
+    }
+
+    /// The same, where nothing but Fine is said without a host.
+    fn perform_by(self, graph: &Graph, said: Verdict) -> Finished
+        requires work { (c : CoreValue) × IsCore c × (c.graph ≡ graph.now) × IsWork c self }
+        ensures line { result.line ≡ self.line }
+        ensures said { self.is_cancelled ≡ false → line_passes is_call graph.now self.line ≡ true → result.ends ≡ end_by said }
+        ensures finished { (c : CoreValue) → IsCore c → (c.hosted ≡ false → said ≡ Fine) → c.graph ≡ graph.now → IsWork c self → IsFinished c result }
     {
         work_is_as_evaluated();
         work_gives_cells();
@@ -93,9 +119,21 @@ impl Work {
         let end = if is_cancelled {
             End::Cancelled
         } else {
-            end_by(apply(graph, line, &mut held))
+            let own = apply(graph, line, &mut held);
+            end_by(verdict_by(graph, line, said, own))
         };
         Finished { line, end, held }
+    }
+}
+
+/// The verdict of a line: for a call the one that is said, for another its own.
+fn verdict_by(graph: &Graph, line: u32, said: Verdict, own: Verdict) -> Verdict
+    requires { line < length graph.now.lines }
+    ensures { result ≡ verdict_by (line_passes is_call graph.now line) said own }
+{
+    match &graph.line(line).verb {
+        Verb::Call { .. } => said,
+        _ => own,
     }
 }
 

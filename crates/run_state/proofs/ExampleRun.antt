@@ -11,6 +11,7 @@ use Rattle.graph_terms.specs.declared.verb.Edge.{Edge}
 use Rattle.graph_terms.specs.Graph.{GraphValue, never_comes}
 use Rattle.graph_terms.specs.Edges.{edges}
 use Rattle.graph_meaning.specs.Rules.{Accepted}
+use Rattle.graph_meaning.specs.Effect.{effect}
 use Rattle.graph_meaning.specs.Evaluation.{eval_end, order}
 use Rattle.graph_terms.specs.Fits.{IsGraph}
 use Rattle.graph_terms.proofs.examples.Graphs.{one_fill, two_sections, reserved_sums}
@@ -24,7 +25,7 @@ use Rattle.run_state.specs.Sound.{Sound}
 use Rattle.run_state.specs.Moves.{issue}
 use Rattle.run_state.specs.Work.{put_cells}
 use Rattle.run_state.specs.Start.{start}
-use Rattle.run_state.specs.Quiet.{Quiet, GivesOutcome}
+use Rattle.run_state.specs.Quiet.{Quiet, GivesOutcomeWith}
 use Rattle.run_state.specs.WholeLine.{lock_of, take_whole, put_back_whole}
 use Rattle.run_state.proofs.Lists.{each_set, none_listed, stage_there}
 use Rattle.run_state.proofs.Stages.{issue-sound}
@@ -250,7 +251,7 @@ both_over-at (suc (suc (suc (suc zero)))) t e = ap (slice_get second_first) (sym
 both_over-at (suc (suc (suc (suc (suc zero))))) t e = ap (slice_get second_first) (sym (same_Some 2 t e))
 both_over-at (suc (suc (suc (suc (suc (suc i)))))) t e = absurd (none-some t e)
 
-both_over-gives : GivesOutcome two_sections both_over second_first
+both_over-gives : GivesOutcomeWith (effect two_sections) two_sections both_over second_first
 both_over-gives = quiet_gives two_sections both_over both_over-between.sound both_over-quiet second_first
     (slots_by_times two_sections both_over both_over-between.sound both_over-quiet second_first refl both_over-at)
 

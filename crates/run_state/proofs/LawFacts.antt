@@ -1,4 +1,5 @@
 -- The laws of the states of runs, as they are stated.
+use Rattle.run_state.proofs.Verdicts as verdict_facts
 use Rattle.run_state.proofs.Start as start_facts
 use Rattle.run_state.proofs.Between as between_facts
 use Rattle.run_state.proofs.Stages as stages_facts
@@ -16,94 +17,100 @@ use Rattle.run_state.proofs.QuietOutcome as outcome_facts
 use Rattle.run_state.proofs.QuietTrace as trace_facts
 use Rattle.run_state.proofs.Slots as slots_facts
 use Rattle.run_state.proofs.Apart as apart_facts
-use Rattle.run_state.specs.Laws.{StartIsSound, StartIsAtRest, IssueKeepsSound, ClaimKeepsSound, UnclaimKeepsSound, ColumnOutKeepsSound, ColumnUnusedKeepsSound, ColumnBackKeepsSound, HoldKeepsSound, LetGoKeepsSound, ArriveKeepsSound, DrawKeepsSound, EndingKeepsSound, FreeKeepsSound, CloseKeepsSound, IssueKeepsRest, TakeKeepsRest, ClaimOfCancelledKeepsRest, PutBackKeepsRest, CanTakeWhole, CancelledByKeptEnds, TakenHolds, ListsHold, WorkIsAsEvaluated, WorkGivesCells, PerformedMayBePutBack, CancelledMayBePutBack, HoldsAllStays, MayPutBackStays, StageLeaves, ColumnOutLeaves, ColumnUnusedLeaves, ColumnBackLeaves, TakeLeaves, PutBackLeaves, BackAtRest, ArrivedAtRest, FreedAtRest, QuietGivesOutcome, SlotsAreByTimes, ClockIsSmall, LeftBelowNeed, UnorderedConflictOnlyExempt, OutConflictOnlyExempt}
+use Rattle.run_state.specs.Laws.{VerbsKeepToColumns, FaultsKeepToColumns, StartIsSound, StartIsAtRest, IssueKeepsSound, ClaimKeepsSound, UnclaimKeepsSound, ColumnOutKeepsSound, ColumnUnusedKeepsSound, ColumnBackKeepsSound, HoldKeepsSound, LetGoKeepsSound, ArriveKeepsSound, DrawKeepsSound, EndingKeepsSound, FreeKeepsSound, CloseKeepsSound, IssueKeepsRest, TakeKeepsRest, ClaimOfCancelledKeepsRest, PutBackKeepsRest, CanTakeWhole, CancelledByKeptEnds, TakenHolds, ListsHold, WorkIsAsEvaluated, WorkGivesCells, PerformedMayBePutBack, CancelledMayBePutBack, HoldsAllStays, MayPutBackStays, StageLeaves, ColumnOutLeaves, ColumnUnusedLeaves, ColumnBackLeaves, TakeLeaves, PutBackLeaves, BackAtRest, ArrivedAtRest, FreedAtRest, QuietGivesOutcome, SlotsAreByTimes, ClockIsSmall, LeftBelowNeed, UnorderedConflictOnlyExempt, OutConflictOnlyExempt}
+
+pub verbs_keep_to_columns : VerbsKeepToColumns
+verbs_keep_to_columns = verdict_facts.verbs_keep_to_columns
+
+pub faults_keep_to_columns : FaultsKeepToColumns
+faults_keep_to_columns = verdict_facts.faults_keep_to_columns
 
 pub start_is_sound : StartIsSound
-start_is_sound g f a = start_facts.start_is_sound g f a
+start_is_sound does g f a k = start_facts.start_is_sound_with g f a k
 
 pub start_is_at_rest : StartIsAtRest
-start_is_at_rest g f a = between_facts.start_is_at_rest g f a
+start_is_at_rest does g f a = between_facts.start_is_at_rest g f a
 
 pub issue_keeps_sound : IssueKeepsSound
-issue_keeps_sound g run i s m = stages_facts.issue-sound s i m
+issue_keeps_sound does g run i s m = stages_facts.issue-sound s i m
 
 pub claim_keeps_sound : ClaimKeepsSound
-claim_keeps_sound g run i s m = stages_facts.claim-sound s i m
+claim_keeps_sound does g run i s m = stages_facts.claim-sound s i m
 
 pub unclaim_keeps_sound : UnclaimKeepsSound
-unclaim_keeps_sound g run i s m = stages_facts.unclaim-sound s i m
+unclaim_keeps_sound does g run i s m = stages_facts.unclaim-sound s i m
 
 pub column_out_keeps_sound : ColumnOutKeepsSound
-column_out_keeps_sound g run c i s m = columns_facts.column_out-sound s c i m
+column_out_keeps_sound does g run c i s m = columns_facts.column_out-sound s c i m
 
 pub column_unused_keeps_sound : ColumnUnusedKeepsSound
-column_unused_keeps_sound g run c i xs s m = columns_facts.column_unused-sound s c i xs m
+column_unused_keeps_sound does g run c i xs s m = columns_facts.column_unused-sound s c i xs m
 
 pub column_back_keeps_sound : ColumnBackKeepsSound
-column_back_keeps_sound g run c i xs s m = columns_facts.column_back-sound s c i xs m
+column_back_keeps_sound does g run c i xs s m = columns_facts.column_back-sound s c i xs m
 
 pub hold_keeps_sound : HoldKeepsSound
-hold_keeps_sound g run l q s m = locks_facts.hold-sound s l q m
+hold_keeps_sound does g run l q s m = locks_facts.hold-sound s l q m
 
 pub let_go_keeps_sound : LetGoKeepsSound
-let_go_keeps_sound g run l q s m = locks_facts.let_go-sound s l q m
+let_go_keeps_sound does g run l q s m = locks_facts.let_go-sound s l q m
 
 pub arrive_keeps_sound : ArriveKeepsSound
-arrive_keeps_sound g run o i p v s m = phases_facts.arrive-sound s o i p v m
+arrive_keeps_sound does g run o i p v s m = phases_facts.arrive-sound s o i p v m
 
 pub draw_keeps_sound : DrawKeepsSound
-draw_keeps_sound g run i s m = times_facts.draw-sound s i m
+draw_keeps_sound does g run i s m = times_facts.draw-sound s i m
 
 pub ending_keeps_sound : EndingKeepsSound
-ending_keeps_sound g run i x s m = stages_facts.ending-sound s i x m
+ending_keeps_sound does g run i x s m = stages_facts.ending-sound s i x m
 
 pub free_keeps_sound : FreeKeepsSound
-free_keeps_sound g run r l q s m = locks_facts.free-sound s r l q m
+free_keeps_sound does g run r l q s m = locks_facts.free-sound s r l q m
 
 pub close_keeps_sound : CloseKeepsSound
-close_keeps_sound g run i x s m = stages_facts.close-sound s i x m
+close_keeps_sound does g run i x s m = stages_facts.close-sound s i x m
 
 pub issue_keeps_rest : IssueKeepsRest
-issue_keeps_rest g run i s r m = (stages_facts.issue-sound s i m, between_facts.issue_is_at_rest s r i m)
+issue_keeps_rest does g run i s r m = (stages_facts.issue-sound s i m, between_facts.issue_is_at_rest s r i m)
 
 pub take_keeps_rest : TakeKeepsRest
-take_keeps_rest g run i s r m = (whole_facts.taken_is_sound s r i m, whole_facts.taken_is_at_rest s r i m)
+take_keeps_rest does g run i s r m = (whole_facts.taken_is_sound s r i m, whole_facts.taken_is_at_rest s r i m)
 
 pub claim_of_cancelled_keeps_rest : ClaimOfCancelledKeepsRest
-claim_of_cancelled_keeps_rest g run i s r m e = (stages_facts.claim-sound s i m, whole_facts.claim_is_at_rest s r i m.is_issued e)
+claim_of_cancelled_keeps_rest does g run i s r m e = (stages_facts.claim-sound s i m, whole_facts.claim_is_at_rest s r i m.is_issued e)
 
 pub put_back_keeps_rest : PutBackKeepsRest
-put_back_keeps_rest g run i x xs s r m = (put_facts.put_back_is_sound g run s r i x xs m, put_facts.put_back_is_at_rest g run s r i x xs m)
+put_back_keeps_rest does g run i x xs s r m = (put_facts.put_back_is_sound g run s r i x xs m, put_facts.put_back_is_at_rest g run s r i x xs m)
 
 pub can_take_whole : CanTakeWhole
-can_take_whole g run i c n = taken_facts.can_take_whole i c n
+can_take_whole does g run i c n = taken_facts.can_take_whole i c n
 
 pub cancelled_by_kept_ends : CancelledByKeptEnds
-cancelled_by_kept_ends g run i s b c e = started_facts.cancelled_by_kept s i b c e
+cancelled_by_kept_ends does g run i s b c e = started_facts.cancelled_by_kept s i b c e
 
 pub taken_holds : TakenHolds
-taken_holds g run i lists s r m h = taken_facts.taken_holds s r i m lists h
+taken_holds does g run i lists s r m h = taken_facts.taken_holds s r i m lists h
 
 pub lists_hold : ListsHold
-lists_hold g run i lists s o n h e = taken_facts.lists_hold s i o n h lists e
+lists_hold does g run i lists s o n h e = taken_facts.lists_hold s i o n h lists e
 
 pub work_is_as_evaluated : WorkIsAsEvaluated
-work_is_as_evaluated g run i cells s h = work_facts.work_does s i cells h
+work_is_as_evaluated does g run i cells s h = work_facts.work_does s i cells h
 
 pub work_gives_cells : WorkGivesCells
-work_gives_cells g run i c cells s h a = work_facts.work_cells s i cells h c a
+work_gives_cells does g run i c cells s h a = work_facts.work_cells s i cells h c a
 
 pub performed_may_be_put_back : PerformedMayBePutBack
-performed_may_be_put_back g run i cells xs s h e = taken_facts.may_put_back s i cells h xs e
+performed_may_be_put_back does g run i cells xs s h e = taken_facts.may_put_back s i cells h xs e
 
 pub cancelled_may_be_put_back : CancelledMayBePutBack
-cancelled_may_be_put_back g run i xs o e = taken_facts.may_put_back_cancelled i o e xs
+cancelled_may_be_put_back does g run i xs o e = taken_facts.may_put_back_cancelled i o e xs
 
 pub holds_all_stays : HoldsAllStays
-holds_all_stays g run after i cells u h = between_facts.holds_all_stays i u cells h
+holds_all_stays does g run after i cells u h = between_facts.holds_all_stays i u cells h
 
 pub may_put_back_stays : MayPutBackStays
-may_put_back_stays g run after i x xs r u m = between_facts.may_put_back_stays i r u x xs m
+may_put_back_stays does g run after i x xs r u m = between_facts.may_put_back_stays i r u x xs m
 
 pub stage_leaves : StageLeaves
 stage_leaves run i k s n = between_facts.staged_leaves i k s run n
@@ -118,34 +125,34 @@ pub column_back_leaves : ColumnBackLeaves
 column_back_leaves run i c k xs n = between_facts.column_back_leaves i c k xs run n
 
 pub take_leaves : TakeLeaves
-take_leaves g run i k o m = between_facts.take_leaves i k o m
+take_leaves does g run i k o m = between_facts.take_leaves i k o m
 
 pub put_back_leaves : PutBackLeaves
-put_back_leaves g run i k x xs n r m = between_facts.put_back_leaves i k n r x xs m
+put_back_leaves does g run i k x xs n r m = between_facts.put_back_leaves i k n r x xs m
 
 pub back_at_rest : BackAtRest
-back_at_rest g run c i s r = told_facts.back_at_rest s r c i
+back_at_rest does g run c i s r = told_facts.back_at_rest s r c i
 
 pub arrived_at_rest : ArrivedAtRest
-arrived_at_rest g run i s r = told_facts.arrived_at_rest s r i
+arrived_at_rest does g run i s r = told_facts.arrived_at_rest s r i
 
 pub freed_at_rest : FreedAtRest
-freed_at_rest g run r q s rest rel = told_facts.freed_at_rest s rest r q rel
+freed_at_rest does g run r q s rest rel = told_facts.freed_at_rest s rest r q rel
 
 pub quiet_gives_outcome : QuietGivesOutcome
-quiet_gives_outcome g run trace s q t = outcome_facts.quiet_gives g run s q trace t
+quiet_gives_outcome does g run trace s q t = outcome_facts.quiet_gives g run s q trace t
 
 pub slots_are_by_times : SlotsAreByTimes
-slots_are_by_times g run trace s q e h = trace_facts.slots_by_times g run s q trace e h
+slots_are_by_times does g run trace s q e h = trace_facts.slots_by_times g run s q trace e h
 
 pub clock_is_small : ClockIsSmall
-clock_is_small g run s = trace_facts.clock_small s
+clock_is_small does g run s = trace_facts.clock_small s
 
 pub left_below_need : LeftBelowNeed
-left_below_need g run k need s q b n = slots_facts.left_below_need g run s k q b need n
+left_below_need does g run k need s q b n = slots_facts.left_below_need g run s k q b need n
 
 pub unordered_conflict_only_exempt : UnorderedConflictOnlyExempt
 unordered_conflict_only_exempt g i j accepted forth back = apart_facts.unordered_only_exempt g accepted i j forth back
 
 pub out_conflict_only_exempt : OutConflictOnlyExempt
-out_conflict_only_exempt g stages i j accepted s hi hj = apart_facts.out_only_exempt accepted s i j hi hj
+out_conflict_only_exempt does g stages i j accepted s hi hj = apart_facts.out_only_exempt accepted s i j hi hj

@@ -1,6 +1,8 @@
 pub mod Lists
 pub mod Known
 pub mod SoundParts
+pub mod Evaluated
+pub mod Verdicts
 pub mod Started
 pub mod Apart
 pub mod Columns

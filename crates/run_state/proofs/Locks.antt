@@ -6,14 +6,15 @@ use Rattle.std.proofs.lemmas.List.{get_or-set_same}
 use Rattle.graph_terms.specs.declared.outcome.End.TheVariants.{Done, Cancelled}
 use Rattle.graph_terms.specs.Graph.{GraphValue}
 use Rattle.graph_terms.specs.Reservations.{Acquires, Releases, both_shared}
-use Rattle.graph_meaning.specs.Evaluation.{eval_end}
+use Rattle.graph_meaning.specs.Evaluation.{end_with}
 use Rattle.run_state.specs.Run.{Run, is_listed, stage_at, list_at, started, over, ended, timed}
-use Rattle.run_state.specs.Sound.{SoundLocks, Sound}
+use Rattle.run_state.specs.Sound.{SoundLocksWith, SoundWith}
 use Rattle.run_state.specs.Moves.{inserted, hold, without, let_go, free}
 use Rattle.run_state.proofs.Lists.{each_set, inserted_here, inserted_there, inserted_cases, listed_here, listed_there, listed_cases, listed_without, without_listed, out_started, out_not_ended}
 use Rattle.graph_terms.proofs.Public.{release_one, acquire_one, both_shared_swap, acquired_lock_known}
 use Rattle.run_state.proofs.SoundParts.{with_locks}
-use Rattle.run_state.specs.Premises.{MayHold, MayLetGo, MayFree}
+use Rattle.run_state.specs.Premises.{MayHoldWith, MayLetGo, MayFreeWith}
+use Rattle.graph_meaning.specs.Effect.{Effects, zero_cells}
 
 -- one number more in one of the lists
 module _ (lists : List (List ℕ)) (l q : ℕ) (there : l < length lists) where
@@ -50,12 +51,12 @@ module _ (lists : List (List ℕ)) (l q : ℕ) (there : l < length lists) where
       (λ k h ne. without_listed q k (list_at lists l) h (ne refl)) (λ m ne k h x. h)
 
 -- a reservation that is acquired is one of the graph
-lock_there : {g : GraphValue} {run : Run} → Sound g run → (l q : ℕ) → Acquires g q l → l < length run.holders
-lock_there {g} {run} s l q a = subst (λ n. l < n) (sym s.on_locks.each_lock) (acquired_lock_known g s.graph q l a)
+lock_there : {does : Effects} {g : GraphValue} {run : Run} → SoundWith does g run → (l q : ℕ) → Acquires g q l → l < length run.holders
+lock_there {does} {g} {run} s l q a = subst (λ n. l < n) (sym s.on_locks.each_lock) (acquired_lock_known g s.graph q l a)
 
-hold_locks : {g : GraphValue} {run : Run} → Sound g run → (l q : ℕ) → MayHold g run l q → SoundLocks g run.stages run.times (slice_set run.holders l (inserted q (list_at run.holders l))) run.freed
+hold_locks : {does : Effects} {g : GraphValue} {run : Run} → SoundWith does g run → (l q : ℕ) → MayHoldWith does g run l q → SoundLocksWith does g run.stages run.times (slice_set run.holders l (inserted q (list_at run.holders l))) run.freed
 unfolding with_holder
-hold_locks {g} {run} s l q m =
+hold_locks {does} {g} {run} s l q m =
     let t = s.on_locks in
     let there = lock_there s l q m.acquires in
     let beside : (j k : ℕ) → j ≡ l → is_listed (list_at run.holders j) k ≡ true → both_shared g q k ≡ true = λ j k e h. m.is_free k (subst (λ x. is_listed (list_at run.holders x) k ≡ true) e h) in
@@ -63,7 +64,7 @@ hold_locks {g} {run} s l q m =
       each_lock = length-set run.holders l (inserted q (list_at run.holders l)) ∙ t.each_lock;
       holder_acquires = λ j k h. elim (holder_cases run.holders l q there j k h) [ inl e ↦ subst (λ x. Acquires g k x) (sym e.0) (subst (λ x. Acquires g x l) (sym e.1) m.acquires) | inr r ↦ t.holder_acquires j k r ];
       holder_started = λ j k h. elim (holder_cases run.holders l q there j k h) [ inl e ↦ ap (started run.stages) e.1 ∙ out_started (stage_at run.stages q) m.is_out | inr r ↦ t.holder_started j k r ];
-      holder_not_cancelled = λ j k h. elim (holder_cases run.holders l q there j k h) [ inl e ↦ subst (λ x. eval_end g x ≢ Cancelled) (sym e.1) m.not_cancelled | inr r ↦ t.holder_not_cancelled j k r ];
+      holder_not_cancelled = λ j k h. elim (holder_cases run.holders l q there j k h) [ inl e ↦ subst (λ x. end_with does zero_cells g x ≢ Cancelled) (sym e.1) m.not_cancelled | inr r ↦ t.holder_not_cancelled j k r ];
       holder_alone = λ j a b ha hb ne. elim (holder_cases run.holders l q there j a ha) [
         | inl ea ↦ elim (holder_cases run.holders l q there j b hb) [
           | inl eb ↦ absurd (ne (ea.1 ∙ sym eb.1))
@@ -86,18 +87,18 @@ hold_locks {g} {run} s l q m =
     }
 
 -- a reservation taken
-pub hold-sound : {g : GraphValue} {run : Run} → Sound g run → (l q : ℕ) → MayHold g run l q → Sound g (hold run l q)
-hold-sound {g} {run} s l q m = with_locks s (slice_set run.holders l (inserted q (list_at run.holders l))) run.freed (hold_locks s l q m)
+pub hold-sound : {does : Effects} {g : GraphValue} {run : Run} → SoundWith does g run → (l q : ℕ) → MayHoldWith does g run l q → SoundWith does g (hold run l q)
+hold-sound {does} {g} {run} s l q m = with_locks s (slice_set run.holders l (inserted q (list_at run.holders l))) run.freed (hold_locks s l q m)
 
 -- one holder fewer
-less_locks : {g : GraphValue} {run : Run} → Sound g run → (l q : ℕ) → Acquires g q l → (freed : List ℕ)
-    → ((j k : ℕ) → Acquires g k j → timed run.times k ≡ true → eval_end g k ≢ Cancelled → (is_listed (list_at (slice_set run.holders l (without q (list_at run.holders l))) j) k ≡ true) ⊎ ((r : ℕ) × Releases g r k × (is_listed freed r ≡ true)))
-    → ((r : ℕ) → is_listed freed r ≡ true → over run.stages r ≡ true) → ((r k : ℕ) → Releases g r k → is_listed freed r ≡ true → ended run.stages k ≡ true) → ((r k : ℕ) → Releases g r k → is_listed freed r ≡ true → eval_end g k ≡ Done)
+less_locks : {does : Effects} {g : GraphValue} {run : Run} → SoundWith does g run → (l q : ℕ) → Acquires g q l → (freed : List ℕ)
+    → ((j k : ℕ) → Acquires g k j → timed run.times k ≡ true → end_with does zero_cells g k ≢ Cancelled → (is_listed (list_at (slice_set run.holders l (without q (list_at run.holders l))) j) k ≡ true) ⊎ ((r : ℕ) × Releases g r k × (is_listed freed r ≡ true)))
+    → ((r : ℕ) → is_listed freed r ≡ true → over run.stages r ≡ true) → ((r k : ℕ) → Releases g r k → is_listed freed r ≡ true → ended run.stages k ≡ true) → ((r k : ℕ) → Releases g r k → is_listed freed r ≡ true → end_with does zero_cells g k ≡ Done)
     → ((j k r : ℕ) → Releases g r k → is_listed freed r ≡ true → is_listed (list_at (slice_set run.holders l (without q (list_at run.holders l))) j) k ≡ true → ⊥)
-    → ((r k : ℕ) → Releases g r k → ended run.stages r ≡ true → eval_end g k ≡ Done → is_listed freed r ≡ true)
-    → SoundLocks g run.stages run.times (slice_set run.holders l (without q (list_at run.holders l))) freed
+    → ((r k : ℕ) → Releases g r k → ended run.stages r ≡ true → end_with does zero_cells g k ≡ Done → is_listed freed r ≡ true)
+    → SoundLocksWith does g run.stages run.times (slice_set run.holders l (without q (list_at run.holders l))) freed
 unfolding less_one
-less_locks {g} {run} s l q a freed timed_holds freed_over freed_ended freed_done freed_gone ended_freed =
+less_locks {does} {g} {run} s l q a freed timed_holds freed_over freed_ended freed_done freed_gone ended_freed =
     let t = s.on_locks in
     let was : (j k : ℕ) → is_listed (list_at (slice_set run.holders l (without q (list_at run.holders l))) j) k ≡ true → is_listed (list_at run.holders j) k ≡ true = λ j k h. (one_less run.holders l q (lock_there s l q a) j k h).0 in
     record {
@@ -115,9 +116,9 @@ less_locks {g} {run} s l q a freed timed_holds freed_over freed_ended freed_done
     }
 
 -- an acquire holds its reservation no more
-let_go_locks : {g : GraphValue} {run : Run} → Sound g run → (l q : ℕ) → MayLetGo g run l q → SoundLocks g run.stages run.times (slice_set run.holders l (without q (list_at run.holders l))) run.freed
+let_go_locks : {does : Effects} {g : GraphValue} {run : Run} → SoundWith does g run → (l q : ℕ) → MayLetGo g run l q → SoundLocksWith does g run.stages run.times (slice_set run.holders l (without q (list_at run.holders l))) run.freed
 unfolding less_one
-let_go_locks {g} {run} s l q m =
+let_go_locks {does} {g} {run} s l q m =
     let t = s.on_locks in
     let there = lock_there s l q m.acquires in
     less_locks s l q m.acquires run.freed
@@ -128,12 +129,12 @@ let_go_locks {g} {run} s l q m =
     t.freed_over t.freed_ended t.freed_done (λ j k r rel f h. t.freed_gone j k r rel f (one_less run.holders l q there j k h).0) t.ended_freed
 
 -- a reservation let go
-pub let_go-sound : {g : GraphValue} {run : Run} → Sound g run → (l q : ℕ) → MayLetGo g run l q → Sound g (let_go run l q)
-let_go-sound {g} {run} s l q m = with_locks s (slice_set run.holders l (without q (list_at run.holders l))) run.freed (let_go_locks s l q m)
+pub let_go-sound : {does : Effects} {g : GraphValue} {run : Run} → SoundWith does g run → (l q : ℕ) → MayLetGo g run l q → SoundWith does g (let_go run l q)
+let_go-sound {does} {g} {run} s l q m = with_locks s (slice_set run.holders l (without q (list_at run.holders l))) run.freed (let_go_locks s l q m)
 
-free_locks : {g : GraphValue} {run : Run} → Sound g run → (r l q : ℕ) → MayFree g run r l q → SoundLocks g run.stages run.times (slice_set run.holders l (without q (list_at run.holders l))) (r ∷ run.freed)
+free_locks : {does : Effects} {g : GraphValue} {run : Run} → SoundWith does g run → (r l q : ℕ) → MayFreeWith does g run r l q → SoundLocksWith does g run.stages run.times (slice_set run.holders l (without q (list_at run.holders l))) (r ∷ run.freed)
 unfolding less_one
-free_locks {g} {run} s r l q m =
+free_locks {does} {g} {run} s r l q m =
     let t = s.on_locks in
     let there = lock_there s l q m.acquires in
     let this_one : (k a : ℕ) → k ≡ r → Releases g k a → a ≡ q = λ k a e rel. release_one g r a q (subst (λ x. Releases g x a) e rel) m.releases in
@@ -147,7 +148,7 @@ free_locks {g} {run} s r l q m =
     ])
     (λ k h. elim (listed_cases r k run.freed h) [ inl e ↦ ap (over run.stages) e ∙ m.is_over | inr old ↦ t.freed_over k old ])
     (λ k a rel h. elim (listed_cases r k run.freed h) [ inl e ↦ ap (ended run.stages) (this_one k a e rel) ∙ m.acquire_ended | inr old ↦ t.freed_ended k a rel old ])
-    (λ k a rel h. elim (listed_cases r k run.freed h) [ inl e ↦ ap (eval_end g) (this_one k a e rel) ∙ m.acquire_done | inr old ↦ t.freed_done k a rel old ])
+    (λ k a rel h. elim (listed_cases r k run.freed h) [ inl e ↦ ap (end_with does zero_cells g) (this_one k a e rel) ∙ m.acquire_done | inr old ↦ t.freed_done k a rel old ])
     (λ j a k rel f h. let w = one_less run.holders l q there j a h in elim (listed_cases r k run.freed f) [
       | inl e ↦ (let same : a ≡ q = this_one k a e rel in w.1 (acquire_one g q j l (subst (λ x. Acquires g x j) same (t.holder_acquires j a w.0)) m.acquires) same)
       | inr old ↦ t.freed_gone j a k rel old w.0
@@ -155,5 +156,5 @@ free_locks {g} {run} s r l q m =
     (λ k a rel h d. listed_there r k run.freed (t.ended_freed k a rel h d))
 
 -- a reservation freed
-pub free-sound : {g : GraphValue} {run : Run} → Sound g run → (r l q : ℕ) → MayFree g run r l q → Sound g (free run r l q)
-free-sound {g} {run} s r l q m = with_locks s (slice_set run.holders l (without q (list_at run.holders l))) (r ∷ run.freed) (free_locks s r l q m)
+pub free-sound : {does : Effects} {g : GraphValue} {run : Run} → SoundWith does g run → (r l q : ℕ) → MayFreeWith does g run r l q → SoundWith does g (free run r l q)
+free-sound {does} {g} {run} s r l q m = with_locks s (slice_set run.holders l (without q (list_at run.holders l))) (r ∷ run.freed) (free_locks s r l q m)

@@ -10,9 +10,9 @@ use Rattle.graph_terms.specs.declared.outcome.End.TheVariants.{Cancelled}
 use Rattle.graph_terms.specs.declared.verb.Verb.{Verb}
 use Rattle.graph_terms.specs.declared.verb.Verb.TheVariants.{Phase, Arrive}
 use Rattle.graph_terms.specs.Graph.{GraphValue, verb_at, line_passes}
-use Rattle.graph_meaning.specs.Evaluation.{eval_end, combined, reduced_with, arrival_value}
+use Rattle.graph_meaning.specs.Evaluation.{end_with, combined, reduced_with, arrival_value}
 use Rattle.run_state.specs.Run.{Run, is_listed, stage_at, started}
-use Rattle.run_state.specs.Sound.{is_arrive, value_for, SoundPhases, Sound}
+use Rattle.run_state.specs.Sound.{is_arrive, value_for, SoundPhasesWith, SoundWith}
 use Rattle.run_state.specs.Moves.{arrive}
 use Rattle.std.proofs.lemmas.List.Sums.{fold_push}
 use Rattle.graph_terms.proofs.Public.{verb_below}
@@ -20,8 +20,9 @@ use Rattle.graph_meaning.proofs.ArrivalFacts.{arrival_is}
 use Rattle.run_state.proofs.SoundParts.{with_phases}
 use Rattle.run_state.proofs.Lists.{listed_there, listed_contains, contains_listed, out_started}
 use Rattle.std.proofs.lemmas.List.Elements.{Contains-push_cases, Contains-append_left, filter_map-append}
-use Rattle.run_state.specs.Premises.{MayArrive}
+use Rattle.run_state.specs.Premises.{MayArriveWith}
 use Rattle.run_state.specs.Laws.{ListedAtEndByCases, ListedStaysWithMore, OnceWithAnother, PlacedIsListed, ValueOfArrival}
+use Rattle.graph_meaning.specs.Effect.{Effects, zero_cells}
 
 -- a number is behind the others, or among them
 got_push : (xs : List ℕ) (x a i : ℕ) → slice_get (xs ++ x ∷ []) a ≡ Some i → ((a ≡ length xs) × (x ≡ i)) ⊎ ((a < length xs) × (slice_get xs a ≡ Some i))
@@ -72,9 +73,9 @@ filter_one f x y e = rw e refl
 filter_none : {X Y : Type 0} (f : X → Option Y) (x : X) → f x ≡ None → filter_map f (x ∷ []) ≡ []
 filter_none f x e = rw e refl
 
-arrive_phases : {g : GraphValue} {run : Run} → Sound g run → (o : Op) (i p v : ℕ) → MayArrive g run o i p v →
-    SoundPhases g run.stages (slice_set run.values p (combined o (slice_index run.values p) v)) (run.arrived ++ i ∷ [])
-arrive_phases {g} {run} s o i p v m =
+arrive_phases : {does : Effects} {g : GraphValue} {run : Run} → SoundWith does g run → (o : Op) (i p v : ℕ) → MayArriveWith does g run o i p v →
+    SoundPhasesWith does g run.stages (slice_set run.values p (combined o (slice_index run.values p) v)) (run.arrived ++ i ∷ [])
+arrive_phases {does} {g} {run} s o i p v m =
     let t = s.on_phases in
     record {
       each_value = length-set run.values p (combined o (slice_index run.values p) v) ∙ t.each_value;
@@ -98,10 +99,10 @@ arrive_phases {g} {run} s o i p v m =
       arrived_started = λ k h. elim (listed_push run.arrived i k h) [ inl old ↦ t.arrived_started k old | inr e ↦ ap (started run.stages) e ∙ out_started (stage_at run.stages i) m.is_out ];
       arrived_arrives = λ k h. elim (listed_push run.arrived i k h) [ inl old ↦ t.arrived_arrives k old | inr e ↦ subst (λ z. line_passes is_arrive g z ≡ true) (sym e) (ap (λ (o : Option Verb). option_map_or is_arrive o false) (value_is p (verb_at g i) v m.arrives).1) ];
       arrived_once = once_push run.arrived i t.arrived_once m.not_arrived;
-      arrived_not_cancelled = λ k h. elim (listed_push run.arrived i k h) [ inl old ↦ t.arrived_not_cancelled k old | inr e ↦ subst (λ z. eval_end g z ≢ Cancelled) (sym e) m.not_cancelled ];
+      arrived_not_cancelled = λ k h. elim (listed_push run.arrived i k h) [ inl old ↦ t.arrived_not_cancelled k old | inr e ↦ subst (λ z. end_with does zero_cells g z ≢ Cancelled) (sym e) m.not_cancelled ];
       over_arrived = λ k h a n. push_listed run.arrived i k (t.over_arrived k h a n);
     }
 
 -- an arrival put in
-pub arrive-sound : {g : GraphValue} {run : Run} → Sound g run → (o : Op) (i p v : ℕ) → MayArrive g run o i p v → Sound g (arrive run o i p v)
-arrive-sound {g} {run} s o i p v m = with_phases s (slice_set run.values p (combined o (slice_index run.values p) v)) (run.arrived ++ i ∷ []) (arrive_phases s o i p v m)
+pub arrive-sound : {does : Effects} {g : GraphValue} {run : Run} → SoundWith does g run → (o : Op) (i p v : ℕ) → MayArriveWith does g run o i p v → SoundWith does g (arrive run o i p v)
+arrive-sound {does} {g} {run} s o i p v m = with_phases s (slice_set run.values p (combined o (slice_index run.values p) v)) (run.arrived ++ i ∷ []) (arrive_phases s o i p v m)

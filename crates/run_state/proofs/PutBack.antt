@@ -14,11 +14,11 @@ use Rattle.graph_terms.specs.declared.verb.Verb.TheVariants.{Phase, Arrive, Rele
 use Rattle.graph_terms.specs.declared.decl.BarrierInfo.{BarrierInfo}
 use Rattle.graph_terms.specs.Graph.{GraphValue, barriers, verb_at, is_release_of}
 use Rattle.graph_terms.specs.Reservations.{Acquires, Releases}
-use Rattle.graph_meaning.specs.Evaluation.{eval_end, arrival_value}
+use Rattle.graph_meaning.specs.Evaluation.{end_with, arrival_value}
 use Rattle.run_state.specs.Run.{LineStage, Unissued, Ending, Ended, Place, Home, Had, Run, is_listed, stage_at, time_at, place_at, list_at, stage_issued, stage_out, stage_started, stage_over, stage_ended, end_so_far, out, started, ended}
-use Rattle.run_state.specs.Sound.{AccessesColumn, is_arrive, value_for, Sound}
+use Rattle.run_state.specs.Sound.{AccessesColumn, is_arrive, value_for, SoundWith}
 use Rattle.run_state.specs.Moves.{draw, ending}
-use Rattle.run_state.specs.Work.{put_cells}
+use Rattle.run_state.specs.Work.{put_cells_with}
 use Rattle.run_state.specs.WholeLine.{column_list, lock_of, all_home, all_back, columns_back, arrived_with, arrive_some, holders_without, freed_with, free_some, columns_for, op_by, phase_op, arrival_by, arrival_for, freed_lock, frees_by, frees_for, put_back_whole}
 use Rattle.run_state.proofs.Lists.{ended_over, out_not_ended, each_set, listed_here, listed_there, listed_cases, none_listed, stage_there}
 use Rattle.basics.proofs.Choices.{is_some_of}
@@ -32,19 +32,20 @@ use Rattle.run_state.proofs.Phases.{arrive-sound, listed_push}
 use Rattle.graph_terms.proofs.Public.{release_of_is, passes_verb, verb_passes, acquired_lock_known, release_names, one_release}
 use Rattle.run_state.proofs.Reductions.{Fresh}
 use Rattle.run_state.proofs.WholeLine.{listed_accessed, accessed_listed, not_the_first, lock_acquires, acquires_lock}
-use Rattle.run_state.specs.AtRest.{AtRest, MayPutBack}
-use Rattle.run_state.specs.Premises.{MayPutBackColumn, MayArrive, MayFree}
+use Rattle.run_state.specs.AtRest.{AtRestWith, MayPutBackWith}
+use Rattle.run_state.specs.Premises.{MayPutBackColumnWith, MayArriveWith, MayFreeWith}
+use Rattle.graph_meaning.specs.Effect.{Effects, zero_cells}
 
 -- several columns put back
-pub columns_back-sound : {g : GraphValue} {run : Run} → Sound g run → (i : ℕ) (xs : ℕ → List ℕ) (cs : List ℕ) → Fresh cs →
-    ((c : ℕ) → is_listed cs c ≡ true → MayPutBackColumn g run c i (xs c)) → Sound g (columns_back run i xs cs)
-columns_back-sound {g} {run} s i xs [] f m = s
-columns_back-sound {g} {run} s i xs (c ∷ cs) f m =
+pub columns_back-sound : {does : Effects} {g : GraphValue} {run : Run} → SoundWith does g run → (i : ℕ) (xs : ℕ → List ℕ) (cs : List ℕ) → Fresh cs →
+    ((c : ℕ) → is_listed cs c ≡ true → MayPutBackColumnWith does g run c i (xs c)) → SoundWith does g (columns_back run i xs cs)
+columns_back-sound {does} {g} {run} s i xs [] f m = s
+columns_back-sound {does} {g} {run} s i xs (c ∷ cs) f m =
     let here = m c (listed_here c cs) in
     columns_back-sound (column_back-sound s c i (xs c) here) i xs cs f.1
     (λ d h. let ne : d ≡ c → ⊥ = not_the_first c d cs f h in let there = m d (listed_there c d cs h) in record {
       has = get_or-set_other run.places c d (Home (xs c)) (Home []) ne ∙ there.has;
-      changed = there.changed ∙ ap (λ ks. put_cells g i ks d) (sym (get_or-set_other run.back c d (i ∷ list_at run.back c) [] ne));
+      changed = there.changed ∙ ap (λ ks. put_cells_with does g i ks d) (sym (get_or-set_other run.back c d (i ∷ list_at run.back c) [] ne));
     })
 
 pub all_home_other : (places : List Place) (xs : ℕ → List ℕ) (cs : List ℕ) (c : ℕ) → (is_listed cs c ≡ true → ⊥) → place_at (all_home places xs cs) c ≡ place_at places c
@@ -128,9 +129,9 @@ some_arrival g i Waiting p n w ne e = some_arrival_of g (verb_at g i) p n w e
 phase_op_is : (g : GraphValue) (p b : ℕ) (x : BarrierInfo) → verb_at g p ≡ Some (Phase b) → slice_get (barriers g) b ≡ Some x → x.op ≡ phase_op g p
 phase_op_is g p b x e at = sym (ap (λ (o : Option Verb). option_map_or (op_by g) o op.Sum) e ∙ ap (λ (o : Option BarrierInfo). option_map_or (λ (x : BarrierInfo). x.op) o op.Sum) at)
 
-arrive_some-sound : {g : GraphValue} {run : Run} → Sound g run → (i : ℕ) (o : Option (Op × ℕ × ℕ)) → ((a : Op × ℕ × ℕ) → o ≡ Some a → MayArrive g run a.0 i a.1 a.2) → Sound g (arrive_some run i o)
-arrive_some-sound s i None m = s
-arrive_some-sound s i (Some a) m = arrive-sound s a.0 i a.1 a.2 (m a refl)
+arrive_some-sound : {does : Effects} {g : GraphValue} {run : Run} → SoundWith does g run → (i : ℕ) (o : Option (Op × ℕ × ℕ)) → ((a : Op × ℕ × ℕ) → o ≡ Some a → MayArriveWith does g run a.0 i a.1 a.2) → SoundWith does g (arrive_some run i o)
+arrive_some-sound {does} s i None m = s
+arrive_some-sound {does} s i (Some a) m = arrive-sound s a.0 i a.1 a.2 (m a refl)
 
 pushed : (arrived : List ℕ) (i : ℕ) → is_listed (arrived ++ i ∷ []) i ≡ true
 pushed [] i = listed_here i []
@@ -156,9 +157,9 @@ frees_is : (g : GraphValue) (run : Run) (v : Verb) (a : ℕ × ℕ) → frees_by
 frees_is g run (Release k) a h = (let f = freed_lock_is k (end_so_far (stage_at run.stages k)) (lock_of g k) a h in (ap Release f.2, subst (λ z. freed_lock z (end_so_far (stage_at run.stages z)) (lock_of g z) ≡ Some a) f.2 h))
 frees_is g run v a h = absurd (none-some a h)
 
-free_some-sound : {g : GraphValue} {run : Run} → Sound g run → (r : ℕ) (o : Option (ℕ × ℕ)) → ((a : ℕ × ℕ) → o ≡ Some a → MayFree g run r a.0 a.1) → Sound g (free_some run r o)
-free_some-sound s r None m = s
-free_some-sound s r (Some a) m = free-sound s r a.0 a.1 (m a refl)
+free_some-sound : {does : Effects} {g : GraphValue} {run : Run} → SoundWith does g run → (r : ℕ) (o : Option (ℕ × ℕ)) → ((a : ℕ × ℕ) → o ≡ Some a → MayFreeWith does g run r a.0 a.1) → SoundWith does g (free_some run r o)
+free_some-sound {does} s r None m = s
+free_some-sound {does} s r (Some a) m = free-sound s r a.0 a.1 (m a refl)
 
 freed_new : (freed : List ℕ) (r : ℕ) (o : Option (ℕ × ℕ)) (a : ℕ × ℕ) → o ≡ Some a → is_listed (freed_with freed r o) r ≡ true
 freed_new freed r None a e = absurd (none-some a e)
@@ -175,13 +176,13 @@ holders_stay holders None there l k h ne = h
 holders_stay holders (Some a) there l k h ne = one_stays holders a.0 a.1 (there a refl) l k h (λ e s. ne a refl s)
 
 -- a release that is taken: its acquire is ended
-pub acquire_is_ended : {g : GraphValue} {run : Run} → Sound g run → (r q : ℕ) → Releases g r q → started run.stages r ≡ true → ended run.stages q ≡ true
-acquire_is_ended {g} {run} s r q rel h =
+pub acquire_is_ended : {does : Effects} {g : GraphValue} {run : Run} → SoundWith does g run → (r q : ℕ) → Releases g r q → started run.stages r ≡ true → ended run.stages q ≡ true
+acquire_is_ended {does} {g} {run} s r q rel h =
     let a = release_names g s.graph r q rel in
     let p = s.accepted.released q a.0 a.1 in
     path_ended s.on_lines q p.0 p.2 (ap (started run.stages) (one_release g s.graph q p.0 r p.1 rel) ∙ h)
 
-module _ (g : GraphValue) (run : Run) (s : Sound g run) (rest : AtRest g run) (i : ℕ) (x : End) (xs : ℕ → List ℕ) (m : MayPutBack g run i x xs) where
+module _ {does : Effects} (g : GraphValue) (run : Run) (s : SoundWith does g run) (rest : AtRestWith does g run) (i : ℕ) (x : End) (xs : ℕ → List ℕ) (m : MayPutBackWith does g run i x xs) where
   is_out : out run.stages i ≡ true
   is_out = ap stage_out m.is_out
 
@@ -197,17 +198,17 @@ module _ (g : GraphValue) (run : Run) (s : Sound g run) (rest : AtRest g run) (i
   time_there : i < length run.times
   time_there = subst (λ n. i < n) (s.on_lines.each_line ∙ sym s.on_times.each_time) there
 
-  not_cancelled : x ≢ Cancelled → eval_end g i ≢ Cancelled
+  not_cancelled : x ≢ Cancelled → end_with does zero_cells g i ≢ Cancelled
   not_cancelled ne e = ne (sym m.is_end ∙ e)
 
   column_below : (c : ℕ) → is_listed (columns_for g i x) c ≡ true → c < length run.back
   column_below c h = subst (λ n. c < n) (sym s.on_columns.each_back) (column_there s.graph i c (for_listed g i x c h).1)
 
-  s_columns : Sound g (columns_back run i xs (columns_for g i x))
+  s_columns : SoundWith does g (columns_back run i xs (columns_for g i x))
   s_columns = columns_back-sound s i xs (columns_for g i x) (for_fresh g i x (columns_fresh g s.graph i))
       (λ c h. let f = for_listed g i x c h in record { has = rest.out_has i c is_out (not_cancelled f.0) f.1; changed = m.leaves c f.1 (not_cancelled f.0) })
 
-  s_arrived : Sound g (arrive_some (columns_back run i xs (columns_for g i x)) i (arrival_for g i x))
+  s_arrived : SoundWith does g (arrive_some (columns_back run i xs (columns_for g i x)) i (arrival_for g i x))
   s_arrived = arrive_some-sound s_columns i (arrival_for g i x) (λ a e. let f = arrival_found g i x a e in record {
     is_out = is_out;
     arrives = f.1;
@@ -216,7 +217,7 @@ module _ (g : GraphValue) (run : Run) (s : Sound g run) (rest : AtRest g run) (i
     by_barrier = λ b y p at. phase_op_is g a.1 b y p at ∙ f.2;
   })
 
-  s_drawn : Sound g (draw (arrive_some (columns_back run i xs (columns_for g i x)) i (arrival_for g i x)) i)
+  s_drawn : SoundWith does g (draw (arrive_some (columns_back run i xs (columns_for g i x)) i (arrival_for g i x)) i)
   s_drawn = draw-sound s_arrived i (record {
     is_out = is_out;
     untimed = none_of (time_at run.times i) (rest.out_untimed i is_out);
@@ -227,7 +228,7 @@ module _ (g : GraphValue) (run : Run) (s : Sound g run) (rest : AtRest g run) (i
       none_of None h = refl
       none_of (Some t) h = absurd (true≢false h)
 
-  s_ending : Sound g (ending (draw (arrive_some (columns_back run i xs (columns_for g i x)) i (arrival_for g i x)) i) i x)
+  s_ending : SoundWith does g (ending (draw (arrive_some (columns_back run i xs (columns_for g i x)) i (arrival_for g i x)) i) i x)
   s_ending = ending-sound s_drawn i x (record {
     is_out = m.is_out;
     is_end = m.is_end;
@@ -243,7 +244,7 @@ module _ (g : GraphValue) (run : Run) (s : Sound g run) (rest : AtRest g run) (i
   ended_stays : (k : ℕ) → ended run.stages k ≡ true → ended (slice_set run.stages i (Ending x)) k ≡ true
   ended_stays = each_set (λ k y. ended run.stages k ≡ true → stage_ended y ≡ true) run.stages Unissued i (Ending x) there (λ h. absurd (not_ended h)) (λ k ne h. h)
 
-  pub frees_found : (a : ℕ × ℕ) → frees_for g run i ≡ Some a → Releases g i a.1 × Acquires g a.1 a.0 × (ended run.stages a.1 ≡ true) × (eval_end g a.1 ≡ Done)
+  pub frees_found : (a : ℕ × ℕ) → frees_for g run i ≡ Some a → Releases g i a.1 × Acquires g a.1 a.0 × (ended run.stages a.1 ≡ true) × (end_with does zero_cells g a.1 ≡ Done)
   frees_found a e =
       let v = by_option (verb_at g i) refl e in
       let f = freed_lock_is a.1 (end_so_far (stage_at run.stages a.1)) (lock_of g a.1) a v.1 in
@@ -254,7 +255,7 @@ module _ (g : GraphValue) (run : Run) (s : Sound g run) (rest : AtRest g run) (i
       by_option None d h = absurd (none-some a h)
       by_option (Some v) d h = let r = frees_is g run v a h in (d ∙ ap Some r.0, r.1)
 
-  s_freed : Sound g (free_some (ending (draw (arrive_some (columns_back run i xs (columns_for g i x)) i (arrival_for g i x)) i) i x) i (frees_for g run i))
+  s_freed : SoundWith does g (free_some (ending (draw (arrive_some (columns_back run i xs (columns_for g i x)) i (arrival_for g i x)) i) i x) i (frees_for g run i))
   s_freed = free_some-sound s_ending i (frees_for g run i) (λ a e. let f = frees_found a e in record {
     is_over = ap stage_over ending_at;
     releases = f.0;
@@ -263,7 +264,7 @@ module _ (g : GraphValue) (run : Run) (s : Sound g run) (rest : AtRest g run) (i
     acquire_done = f.3;
   })
 
-  frees_some : (q : ℕ) → Releases g i q → eval_end g q ≡ Done → (l : ℕ) × (frees_for g run i ≡ Some (l, q))
+  frees_some : (q : ℕ) → Releases g i q → end_with does zero_cells g q ≡ Done → (l : ℕ) × (frees_for g run i ≡ Some (l, q))
   frees_some q rel done =
       let v = passes_verb (is_release_of q) g i rel in
       let a = release_names g s.graph i q rel in
@@ -275,7 +276,7 @@ module _ (g : GraphValue) (run : Run) (s : Sound g run) (rest : AtRest g run) (i
       )
 
   -- a line that is put back
-  pub put_back_is_sound : Sound g (put_back_whole g run i x xs)
+  pub put_back_is_sound : SoundWith does g (put_back_whole g run i x xs)
   put_back_is_sound = close-sound s_freed i x (record {
     is_ending = ending_at;
     frees = λ q rel done. let f = frees_some q rel done in freed_new run.freed i (frees_for g run i) (f.0, q) f.1;
@@ -309,7 +310,7 @@ module _ (g : GraphValue) (run : Run) (s : Sound g run) (rest : AtRest g run) (i
   ended_or_kept k (inl e) = ap (ended last_stages) e ∙ last_here
   ended_or_kept k (inr h) = last_ended k h
 
-  pub put_back_is_at_rest : AtRest g (put_back_whole g run i x xs)
+  pub put_back_is_at_rest : AtRestWith does g (put_back_whole g run i x xs)
   unfolding last_stages
   put_back_is_at_rest = record {
     none_ending = λ k h. elim (cases_eq k i) [

@@ -11,33 +11,31 @@ use Rattle.graph_terms.specs.declared.verb.Verb.TheVariants.{Acquire, Release}
 use Rattle.graph_terms.specs.Graph.{GraphValue, space_at, never_comes, never_comes_as, verb_at, locks, is_acquire_of, is_shared, is_release_of}
 use Rattle.graph_terms.specs.Edges.{edges}
 use Rattle.graph_terms.specs.Reservations.{Acquires, Releases}
-use Rattle.graph_meaning.specs.Effect.{Cells, effect, verb_verdict}
-use Rattle.graph_meaning.specs.Evaluation.{has_ended, is_ended, is_cancelled, cells_of, end_by, evaluation, eval_end}
-use Rattle.graph_meaning.proofs.Public.{ready_or_never, never_with_path, turns_after, end_in_ended, steps_end, end_in_left, ends_in_order, waits_if_reached}
+use Rattle.graph_meaning.specs.Effect.{Cells, verb_verdict, Effects, zero_cells}
+use Rattle.graph_meaning.specs.Evaluation.{has_ended, is_ended, is_cancelled, cells_with, end_by, evaluation, evaluation_with, end_with}
+use Rattle.graph_meaning.proofs.Public.{ready_or_never, never_with_path, end_in_ended, end_in_left}
 use Rattle.graph_meaning.specs.Turns.{IsReadyLine}
 use Rattle.graph_terms.proofs.Public.{acquire_of_is, release_of_is, passes_verb, verb_passes, passes_below, acquired_lock_known, edges_in_range}
 use Rattle.run_state.specs.Run.{LineStage, Unissued, Issued, Out, Ending, Ended, Run, is_listed, stage_at, list_at, stage_out, stage_over, stage_ended, end_so_far, started, ended}
-use Rattle.run_state.specs.Sound.{Sound}
-use Rattle.run_state.specs.Quiet.{Quiet}
+use Rattle.run_state.specs.Sound.{SoundWith}
+use Rattle.run_state.specs.Quiet.{QuietWith}
+use Rattle.run_state.specs.Verdicts.{KeepsToColumns}
 use Rattle.run_state.proofs.Lists.{ended_over}
 use Rattle.run_state.proofs.Started.{ended_started, path_ended, started_ends, kept_is}
 use Rattle.run_state.proofs.Work.{step_parts}
 use Rattle.run_state.proofs.Stuck.{Blocked, stuck_ended, stuck_issued, blocked}
+use Rattle.run_state.proofs.Evaluated.{turns_with, steps_end_with, ends_in_order_with, waits_if_reached_with}
 
--- the end of an acquire that is not cancelled
-verdict_of : (space : ℕ → List (ℕ × ℕ)) (cells : Cells) (o : Option Verb) (l : ℕ) (shared : Bool) → o ≡ Some (Acquire l shared) → option_map_or (verb_verdict space cells) o Fine ≡ Fine
-verdict_of space cells o l shared e = ap (λ (x : Option Verb). option_map_or (verb_verdict space cells) x Fine) e
+-- the end of a line that is fine, and of an acquire, that is not cancelled
+pub fine_done : (does : Effects) (g : GraphValue) (i : ℕ) → ((cells : Cells) → (does i cells).verdict ≡ Fine) → has_ended (evaluation_with does zero_cells g) i ≡ true → end_with does zero_cells g i ≢ Cancelled → end_with does zero_cells g i ≡ Done
+fine_done does g i fine h ne =
+    let t = turns_with does zero_cells g (length g.lines) i h in
+    let parts = step_parts i (is_cancelled g t.0 i) (does i (cells_with zero_cells t.0)) (λ e. ne (t.1.end_is ∙ e)) in
+    t.1.end_is ∙ (parts.0 ∙ ap end_by (fine (cells_with zero_cells t.0)))
 
-pub fine_done : (g : GraphValue) (i : ℕ) → ((cells : Cells) → (effect g i cells).verdict ≡ Fine) → has_ended (evaluation g) i ≡ true → eval_end g i ≢ Cancelled → eval_end g i ≡ Done
-fine_done g i fine h ne =
-    let t = turns_after g (length g.lines) i h in
-    let parts = step_parts i (is_cancelled g t.0 i) (effect g i (cells_of t.0)) (λ e. ne (t.1.end_is ∙ e)) in
-    t.1.end_is ∙ (parts.0 ∙ ap end_by (fine (cells_of t.0)))
-
-pub acquire_done : (g : GraphValue) (q l : ℕ) → Acquires g q l → has_ended (evaluation g) q ≡ true → eval_end g q ≢ Cancelled → eval_end g q ≡ Done
-acquire_done g q l a h ne =
-    let v = passes_verb (is_acquire_of l) g q a in
-    fine_done g q (λ cells. verdict_of (space_at g) cells (verb_at g q) l (is_shared v.0) (v.1 ∙ ap Some (acquire_of_is l v.0 v.2))) h ne
+pub acquire_done : {does : Effects} {g : GraphValue} → KeepsToColumns g does → (q l : ℕ) → Acquires g q l → has_ended (evaluation_with does zero_cells g) q ≡ true →
+    end_with does zero_cells g q ≢ Cancelled → end_with does zero_cells g q ≡ Done
+acquire_done {does} {g} keeps q l a h ne = fine_done does g q (λ cells. keeps.acquires q l cells a) h ne
 
 -- a line that releases acquires nothing and comes
 pub release_no_acquire : (g : GraphValue) (r q l : ℕ) → Releases g r q → Acquires g r l → ⊥
@@ -53,15 +51,15 @@ release_comes g r q rel =
     verb_passes (never_comes_as g r) g r v.0 v.1 ∙ ap (never_comes_as g r) (release_of_is q v.0 v.2)
 
 -- an acquire that holds has a release, which is left
-pub release_left : (g : GraphValue) (run : Run) → Sound g run → (l h : ℕ) → is_listed (list_at run.holders l) h ≡ true → (r : ℕ) × Releases g r h × (ended run.stages r ≡ false)
-release_left g run s l h held =
+pub release_left : {does : Effects} (g : GraphValue) (run : Run) → SoundWith does g run → (l h : ℕ) → is_listed (list_at run.holders l) h ≡ true → (r : ℕ) × Releases g r h × (ended run.stages r ≡ false)
+release_left {does} g run s l h held =
     let acquires : Acquires g h l = s.on_locks.holder_acquires l h held in
     let begun : started run.stages h ≡ true = s.on_locks.holder_started l h held in
-    let done : eval_end g h ≡ Done = acquire_done g h l acquires (started_ends s.graph s.accepted s.on_lines h begun) (s.on_locks.holder_not_cancelled l h held) in
+    let done : end_with does zero_cells g h ≡ Done = acquire_done s.keeps h l acquires (started_ends s.graph s.accepted s.on_lines h begun) (s.on_locks.holder_not_cancelled l h held) in
     let r = s.accepted.released h l acquires in
     (r.0, r.1, false_from_ne_true (ended run.stages r.0) (λ e. s.on_locks.freed_gone l h r.0 r.1 (s.on_locks.ended_freed r.0 h r.1 e done) held))
 
-module _ (g : GraphValue) (run : Run) (s : Sound g run) (q : Quiet g run) where
+module _ {does : Effects} (g : GraphValue) (run : Run) (s : SoundWith does g run) (q : QuietWith does g run) where
   -- a line that was taken is ended
   pub quiet_ended : (i : ℕ) → started run.stages i ≡ true → ended run.stages i ≡ true
   quiet_ended = stuck_ended g run s (length g.lines) q
@@ -103,29 +101,29 @@ module _ (g : GraphValue) (run : Run) (s : Sound g run) (q : Quiet g run) where
   nobody_holds l h held = nobody_holds_from (length (locks g)) l h (omega arith) held
 
   -- a line that is left waits in the evaluation
-  pub left_waits : (i : ℕ) → i < length g.lines → ended run.stages i ≡ false → eval_end g i ≡ Waiting
+  pub left_waits : (i : ℕ) → i < length g.lines → ended run.stages i ≡ false → end_with does zero_cells g i ≡ Waiting
   left_waits i h left = elim (ready_or_never (edges g) (length g.lines) (never_comes g) (ended run.stages) (λ e c. (edges_in_range g s.graph e c).0) s.accepted.acyclic i h left) [
     | inl ready ↦ (let b = ready_blocked ready.0 ready.1 in absurd (nobody_holds b.0 b.2.0 b.2.1))
-    | inr reached ↦ waits_if_reached g i reached
+    | inr reached ↦ waits_if_reached_with does zero_cells g i reached
   ]
 
   -- the end of each line is that of the evaluation
-  pub quiet_end : (i : ℕ) → end_so_far (stage_at run.stages i) ≡ eval_end g i
+  pub quiet_end : (i : ℕ) → end_so_far (stage_at run.stages i) ≡ end_with does zero_cells g i
   quiet_end i = elim (cases_Bool (ended run.stages i)) [
     | inl e ↦ kept_is s.on_lines i (ended_over (stage_at run.stages i) e)
     | inr left ↦ elim (cases_lt i (length g.lines)) [
       | inl h ↦ ap end_so_far (stuck_issued g run s (length g.lines) q i h left) ∙ sym (left_waits i h left)
       | inr past ↦ (
           let none : stage_at run.stages i ≡ Unissued = get_or_past run.stages i Unissued (subst (λ n. n ≤ i) (sym s.on_lines.each_line) past) in
-          ap end_so_far none ∙ sym (end_in_left (evaluation g) i (false_from_ne_true (has_ended (evaluation g) i) (λ e. let b : i < length g.lines = ((ends_in_order g).each i e).0 in absurd (omega arith)))))
+          ap end_so_far none ∙ sym (end_in_left (evaluation_with does zero_cells g) i (false_from_ne_true (has_ended (evaluation_with does zero_cells g) i) (λ e. let b : i < length g.lines = ((ends_in_order_with does zero_cells g).each i e).0 in absurd (omega arith)))))
     ]
   ]
 
   -- the ended lines are those of the evaluation
-  pub ended_in_evaluation : (i : ℕ) → ended run.stages i ≡ true → is_ended (eval_end g i) ≡ true
-  ended_in_evaluation i e = end_in_ended (evaluation g) i (steps_end g (length g.lines)) (started_ends s.graph s.accepted s.on_lines i (ended_started run.stages i e))
+  pub ended_in_evaluation : (i : ℕ) → ended run.stages i ≡ true → is_ended (end_with does zero_cells g i) ≡ true
+  ended_in_evaluation i e = end_in_ended (evaluation_with does zero_cells g) i (steps_end_with does zero_cells g (length g.lines)) (started_ends s.graph s.accepted s.on_lines i (ended_started run.stages i e))
 
-  pub evaluation_ended : (i : ℕ) → is_ended (eval_end g i) ≡ true → ended run.stages i ≡ true
+  pub evaluation_ended : (i : ℕ) → is_ended (end_with does zero_cells g i) ≡ true → ended run.stages i ≡ true
   evaluation_ended i e = elim (cases_Bool (ended run.stages i)) [
     | inl h ↦ h
     | inr left ↦ absurd (true≢false (sym e ∙ (ap is_ended (sym (quiet_end i)) ∙ waits_so_far (stage_at run.stages i) (q.none_out i) (q.none_ending i) left)))

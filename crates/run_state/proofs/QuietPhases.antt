@@ -16,18 +16,19 @@ use Rattle.graph_terms.specs.declared.verb.Verb.TheVariants.{Phase, Arrive}
 use Rattle.graph_terms.specs.declared.decl.BarrierInfo.{BarrierInfo}
 use Rattle.graph_terms.specs.Graph.{GraphValue, barriers, verb_at}
 use Rattle.graph_terms.specs.Edges.{edge, edges, edges_into}
-use Rattle.graph_meaning.specs.Evaluation.{is_ended, is_cancelled, cancels, evaluation, eval_end, arrival_value, reduced_with, reduced_value}
+use Rattle.graph_meaning.specs.Evaluation.{is_ended, is_cancelled, cancels, evaluation_with, end_with, arrival_value, reduced_with, reduced_value}
 use Rattle.basics.proofs.ListFacts.{passes_some, contains_filter, contains_below}
 use Rattle.graph_meaning.proofs.Public.{phases_fit}
 use Rattle.run_state.specs.Run.{Run, is_listed, stage_at, started, ended}
-use Rattle.run_state.specs.Sound.{is_arrive, value_for, Sound}
-use Rattle.run_state.specs.Quiet.{Quiet}
+use Rattle.run_state.specs.Sound.{is_arrive, value_for, SoundWith}
+use Rattle.run_state.specs.Quiet.{QuietWith}
 use Rattle.run_state.proofs.Lists.{ended_over, contains_listed}
-use Rattle.run_state.proofs.Started.{ended_started, started_ends, cancelled_iff}
+use Rattle.run_state.proofs.Started.{ended_started, started_ends, cancelled_iff_with}
 use Rattle.graph_terms.proofs.Public.{verb_passes, verb_below, arrival_edge}
 use Rattle.run_state.proofs.Reductions.{once_fresh, numbers_fresh, same_reduced, by_number}
 use Rattle.run_state.proofs.Phases.{value_is}
 use Rattle.run_state.proofs.Quiet.{evaluation_ended}
+use Rattle.graph_meaning.specs.Effect.{Effects, zero_cells}
 
 -- an end that neither cancels nor waits is done, or the line faulted
 arrival_kept : (x : End) → cancels Passes x ≡ false → x ≢ Cancelled
@@ -36,9 +37,9 @@ arrival_kept Faulted h e = cc
 arrival_kept Waiting h e = cc
 arrival_kept Cancelled h e = true≢false h
 
-module _ (g : GraphValue) (run : Run) (s : Sound g run) (q : Quiet g run) where
+module _ {does : Effects} (g : GraphValue) (run : Run) (s : SoundWith does g run) (q : QuietWith does g run) where
   -- each arrival at a phase that is done was put in
-  pub arrival_in : (p i v : ℕ) → eval_end g p ≡ Done → value_for g p i ≡ Some v → is_listed run.arrived i ≡ true
+  pub arrival_in : (p i v : ℕ) → end_with does zero_cells g p ≡ Done → value_for g p i ≡ Some v → is_listed run.arrived i ≡ true
   arrival_in p i v done brings =
       let w : ℕ = (value_is p (verb_at g i) v brings).0 in
       let e : verb_at g i ≡ Some (Arrive p v w) = (value_is p (verb_at g i) v brings).1 in
@@ -48,13 +49,13 @@ module _ (g : GraphValue) (run : Run) (s : Sound g run) (q : Quiet g run) where
       let i_ended : ended run.stages i ≡ true = s.on_lines.sources (edge i p Passes) c p_started in
       s.on_phases.over_arrived i (ended_over (stage_at run.stages i) i_ended) (verb_passes is_arrive g i (Arrive p v w) e)
       (λ cancelled. (
-      let yes : is_cancelled g (evaluation g) p ≡ true = passes_some (λ (x : Edge). cancels x.kind (eval_end g x.from)) (edges_into g p) (edge i p Passes)
+      let yes : is_cancelled g (evaluation_with does zero_cells g) p ≡ true = passes_some (λ (x : Edge). cancels x.kind (end_with does zero_cells g x.from)) (edges_into g p) (edge i p Passes)
       (contains_filter (λ (x : Edge). x.to == p) (edges g) (edge i p Passes) c (eq-eqb p p refl)) (ap (cancels Passes) cancelled) in
-      let both : Done ≡ Cancelled = sym done ∙ (cancelled_iff g p (started_ends s.graph s.accepted s.on_lines p p_started)).0 yes in
+      let both : Done ≡ Cancelled = sym done ∙ (cancelled_iff_with does g p (started_ends s.graph s.accepted s.on_lines p p_started)).0 yes in
       cc))
 
   -- the value of a phase that is done
-  pub quiet_value : (p b : ℕ) → verb_at g p ≡ Some (Phase b) → eval_end g p ≡ Done → slice_index run.values p ≡ reduced_value g p b
+  pub quiet_value : (p b : ℕ) → verb_at g p ≡ Some (Phase b) → end_with does zero_cells g p ≡ Done → slice_index run.values p ≡ reduced_value g p b
   quiet_value p b e done =
       let none : BarrierInfo = slice_index_or (barriers g) b (record { name = []; count = 0; op = op.Sum; first = 0 }) in
       let at : slice_get (barriers g) b ≡ Some none = slice_get-get_or (barriers g) b (record { name = []; count = 0; op = op.Sum; first = 0 }) (phases_fit g p b s.graph e) in

@@ -7,17 +7,19 @@ use Rattle.graph_terms.specs.declared.outcome.End.{End}
 use Rattle.graph_terms.specs.declared.outcome.End.TheVariants.{Done, Cancelled}
 use Rattle.graph_terms.specs.Graph.{GraphValue}
 use Rattle.graph_terms.specs.Reservations.{Acquires, Releases, both_shared}
-use Rattle.graph_meaning.specs.Evaluation.{is_ended, eval_end}
+use Rattle.graph_meaning.specs.Evaluation.{is_ended, end_with}
 use Rattle.basics.proofs.ListFacts.{count_below-max, got_contains}
 use Rattle.graph_terms.proofs.Public.{both_shared_swap}
-use Rattle.graph_meaning.specs.Trace.{StandsBefore, IsLawful}
+use Rattle.graph_meaning.specs.Trace.{StandsBefore}
 use Rattle.run_state.specs.Run.{Run, stage_at, time_at, ended, timed}
-use Rattle.run_state.specs.Sound.{Sound}
-use Rattle.run_state.specs.Quiet.{Quiet, ByTimes}
+use Rattle.run_state.specs.Sound.{SoundWith}
+use Rattle.run_state.specs.Quiet.{QuietWith, ByTimes, IsLawfulWith}
+use Rattle.run_state.specs.Laws.{LawfulWithVerbs}
 use Rattle.run_state.proofs.Lists.{ended_over}
 use Rattle.basics.proofs.Choices.{some_is, is_some_of}
 use Rattle.run_state.proofs.Started.{sources_closed}
 use Rattle.run_state.proofs.Quiet.{quiet_ended, ended_in_evaluation, evaluation_ended}
+use Rattle.graph_meaning.specs.Effect.{Effects, zero_cells}
 
 -- places in a list
 listed_got : (xs : List ℕ) (i : ℕ) → Contains xs i → (k : ℕ) × (slice_get xs k ≡ Some i)
@@ -27,11 +29,11 @@ done_not_cancelled : (x : End) → x ≡ Done → x ≡ Cancelled → ⊥
 done_not_cancelled x a b = cc
 
 -- the clock is at most the number of lines
-pub clock_small : {g : GraphValue} {run : Run} → Sound g run → run.clock ≤ length g.lines
-clock_small {g} {run} s = subst (λ n. n ≤ length g.lines) (sym s.on_times.clock_counts) (count_below-max (timed run.times) (length g.lines))
+pub clock_small : {does : Effects} {g : GraphValue} {run : Run} → SoundWith does g run → run.clock ≤ length g.lines
+clock_small {does} {g} {run} s = subst (λ n. n ≤ length g.lines) (sym s.on_times.clock_counts) (count_below-max (timed run.times) (length g.lines))
 
 -- a list that has each line at its time is the ended lines by their times
-module _ (g : GraphValue) (run : Run) (s : Sound g run) (q : Quiet g run) (trace : List ℕ) (long : length trace ≡ run.clock)
+module _ {does : Effects} (g : GraphValue) (run : Run) (s : SoundWith does g run) (q : QuietWith does g run) (trace : List ℕ) (long : length trace ≡ run.clock)
     (at_time : (i t : ℕ) → time_at run.times i ≡ Some t → slice_get trace t ≡ Some i)
   where
     got_at_time : (k i : ℕ) → slice_get trace k ≡ Some i → time_at run.times i ≡ Some k
@@ -51,7 +53,7 @@ module _ (g : GraphValue) (run : Run) (s : Sound g run) (q : Quiet g run) (trace
           let b : m ≡ v = same_Some m v (sym (got_at_time m j em) ∙ ev) in omega arith;
     }
 
-module _ (g : GraphValue) (run : Run) (s : Sound g run) (q : Quiet g run) (trace : List ℕ) (t : ByTimes run trace) where
+module _ {does : Effects} (g : GraphValue) (run : Run) (s : SoundWith does g run) (q : QuietWith does g run) (trace : List ℕ) (t : ByTimes run trace) where
   -- an ended line has a time
   time_of : (i : ℕ) → ended run.stages i ≡ true → (u : ℕ) × (time_at run.times i ≡ Some u)
   time_of i e = some_is (time_at run.times i) (s.on_times.over_timed i (ended_over (stage_at run.stages i) e))
@@ -82,20 +84,20 @@ module _ (g : GraphValue) (run : Run) (s : Sound g run) (q : Quiet g run) (trace
         | inr (inr above) ↦ (let x : u.0 < u.0 = t.ascending m k i i u.0 u.0 em ek above u.1 u.1 in absurd (omega arith))
       ]
 
-  sections : (l a b : ℕ) → Acquires g a l → Acquires g b l → a ≢ b → both_shared g a b ≡ false → eval_end g a ≡ Done → eval_end g b ≡ Done →
+  sections : (l a b : ℕ) → Acquires g a l → Acquires g b l → a ≢ b → both_shared g a b ≡ false → end_with does zero_cells g a ≡ Done → end_with does zero_cells g b ≡ Done →
       ((r : ℕ) × Releases g r a × StandsBefore trace r b) ⊎ ((r : ℕ) × Releases g r b × StandsBefore trace r a)
   sections l a b qa qb ne apart da db =
       let ua = time_of a (evaluation_ended g run s q a (ap is_ended da)) in
       let ub = time_of b (evaluation_ended g run s q b (ap is_ended db)) in
       elim (cases_order ua.0 ub.0) [
         | inl same ↦ absurd (ne (s.on_times.distinct a b ub.0 (ua.1 ∙ ap Some same) ub.1))
-        | inr (inl below) ↦ inl (let r = s.on_times.sections_first l a b ua.0 ub.0 qa qb apart (done_not_cancelled (eval_end g a) da) (done_not_cancelled (eval_end g b) db) ua.1 ub.1 below in
+        | inr (inl below) ↦ inl (let r = s.on_times.sections_first l a b ua.0 ub.0 qa qb apart (done_not_cancelled (end_with does zero_cells g a) da) (done_not_cancelled (end_with does zero_cells g b) db) ua.1 ub.1 below in
             (r.0, r.2, by_times r.0 b r.1 ub.0 r.3 ub.1 r.4))
-        | inr (inr above) ↦ inr (let r = s.on_times.sections_first l b a ub.0 ua.0 qb qa (both_shared_swap g b a ∙ apart) (done_not_cancelled (eval_end g b) db) (done_not_cancelled (eval_end g a) da) ub.1 ua.1 above in
+        | inr (inr above) ↦ inr (let r = s.on_times.sections_first l b a ub.0 ua.0 qb qa (both_shared_swap g b a ∙ apart) (done_not_cancelled (end_with does zero_cells g b) db) (done_not_cancelled (end_with does zero_cells g a) da) ub.1 ua.1 above in
             (r.0, r.2, by_times r.0 a r.1 ua.0 r.3 ua.1 r.4))
       ]
 
-  pub trace_is_lawful : IsLawful g trace
+  pub trace_is_lawful : IsLawfulWith does g trace
   trace_is_lawful = record {
     lists = record {
       ended = λ i. (λ c. ended_in_evaluation g run s q i ((t.listed i).0 c), λ e. (t.listed i).1 (evaluation_ended g run s q i e));
@@ -107,3 +109,6 @@ module _ (g : GraphValue) (run : Run) (s : Sound g run) (q : Quiet g run) (trace
     };
     sections = sections;
   }
+
+pub lawful_with_verbs : LawfulWithVerbs
+lawful_with_verbs g trace l = record { lists = l.lists; sections = l.sections }

@@ -22,11 +22,12 @@ use Rattle.graph_meaning.specs.Turns.{IsReadyLine}
 use Rattle.graph_meaning.proofs.NeedTable.{largest_above}
 use Rattle.graph_terms.proofs.Public.{acquire_of_is, release_of_is, passes_verb, passes_below, acquired_lock_known, edges_in_range}
 use Rattle.run_state.specs.Run.{Run, is_listed, list_at, started, ended}
-use Rattle.run_state.specs.Sound.{Sound}
-use Rattle.run_state.specs.Quiet.{Stuck, left_among}
+use Rattle.run_state.specs.Sound.{SoundWith}
+use Rattle.run_state.specs.Quiet.{StuckWith, left_among}
 use Rattle.run_state.proofs.Started.{path_ended}
 use Rattle.run_state.proofs.Quiet.{release_no_acquire, release_left}
 use Rattle.run_state.proofs.Stuck.{Blocked, stuck_ended, stuck_issued, blocked}
+use Rattle.graph_meaning.specs.Effect.{Effects}
 
 -- the edges of the need: those of the graph, and from each release to each acquire of its reservation
 wider : (g : GraphValue) {i j : ℕ} → Path (edges g) i j → Path (need_edges g) i j
@@ -81,7 +82,7 @@ open_at_same : (g : GraphValue) (k : ℕ) {i j : ℕ} → OpenEnd g k i → (i �
 open_at_same g k o (inl e) = subst (OpenEnd g k) e o
 open_at_same g k o (inr p) = open_on g k o (wider g p)
 
-module _ (g : GraphValue) (run : Run) (s : Sound g run) (k : ℕ) (q : Stuck g run k) where
+module _ {does : Effects} (g : GraphValue) (run : Run) (s : SoundWith does g run) (k : ℕ) (q : StuckWith does g run k) where
   unissued_or_blocked : (m : ℕ) → IsReadyLine (edges g) (length g.lines) (never_comes g) (ended run.stages) m → (k ≤ m) ⊎ Blocked g run m
   unissued_or_blocked m r = elim (cases_lt m k) [
     | inl below ↦ inr (blocked g run s k q m
@@ -157,8 +158,8 @@ count_take t p xs (suc n) h f =
     omega arith
 
 -- where nothing can be taken, and a line is left to issue, fewer issued lines are left than the need: so with as many slots one is free
-pub left_below_need : (g : GraphValue) (run : Run) → Sound g run → (k : ℕ) → Stuck g run k → k < length g.lines → (need : ℕ) → IsNeed g need → left_among run k < need
-left_below_need g run s k q few need n =
+pub left_below_need : {does : Effects} (g : GraphValue) (run : Run) → SoundWith does g run → (k : ℕ) → StuckWith does g run k → k < length g.lines → (need : ℕ) → IsNeed g need → left_among run k < need
+left_below_need {does} g run s k q few need n =
     let fit : k ≤ length n.highs = (let e : length n.highs ≡ length g.lines = n.each_line in omega arith) in
     let counted : left_among run k ≤ open_at n.highs k = count_take (λ i. not (ended run.stages i)) (nat_lt k) n.highs k fit
     (λ i below left. lt-ltb k (slice_index n.highs i) (

@@ -9,39 +9,40 @@ use Rattle.graph_terms.specs.declared.verb.Edge.{Edge}
 use Rattle.graph_terms.specs.Graph.{GraphValue, never_comes, line_passes}
 use Rattle.graph_terms.specs.Edges.{edges}
 use Rattle.graph_terms.specs.Reservations.{Releases}
-use Rattle.graph_meaning.specs.Evaluation.{eval_end}
+use Rattle.graph_meaning.specs.Evaluation.{end_with}
 use Rattle.run_state.specs.Run.{LineStage, Unissued, Issued, Out, Ending, Ended, Run, Had, is_listed, stage_at, place_at, list_at, stage_issued, stage_out, stage_started, stage_over, stage_ended, kept_end, issued, started, over, ended, timed}
-use Rattle.run_state.specs.Sound.{AccessesColumn, is_arrive, SoundLines, SoundColumns, SoundPhases, SoundLocks, SoundTimes, Sound}
+use Rattle.run_state.specs.Sound.{AccessesColumn, is_arrive, SoundLinesWith, SoundColumnsWith, SoundPhasesWith, SoundLocksWith, SoundTimesWith, SoundWith}
 use Rattle.run_state.specs.Moves.{staged, issue, claim, unclaim, ending, close}
 use Rattle.run_state.proofs.Lists.{each_set, stage_there}
-use Rattle.run_state.specs.Premises.{MayIssue, MayClaim, MayUnclaim, MayEnd, MayClose}
+use Rattle.run_state.specs.Premises.{MayIssue, MayClaim, MayUnclaim, MayEndWith, MayCloseWith}
+use Rattle.graph_meaning.specs.Effect.{Effects, zero_cells}
 
 -- what each part asks of a line that goes on to stage s
-pub record LineGoes (g : GraphValue) (run : Run) (i : ℕ) (s : LineStage) : Type 0 where
+pub record LineGoes (does : Effects) (g : GraphValue) (run : Run) (i : ℕ) (s : LineStage) : Type 0 where
   pub there : i < length run.stages
   -- lines
   pub is_issued : stage_issued s ≡ true
   pub before : (j : ℕ) → j < i → IsTrue (issued run.stages j)
   pub comes : stage_started s ≡ true → never_comes g i ≡ false
   pub sources : stage_started s ≡ true → (e : Edge) → Contains (edges g) e → e.to ≡ i → IsTrue (ended run.stages e.from)
-  pub ends : (x : End) → kept_end s ≡ Some x → eval_end g i ≡ x
+  pub ends : (x : End) → kept_end s ≡ Some x → end_with does zero_cells g i ≡ x
   pub stays : IsTrue (ended run.stages i) → stage_ended s ≡ true
   -- columns
   pub had : (c : ℕ) → place_at run.places c ≡ Had i → stage_out s ≡ true
-  pub put_back : stage_over s ≡ true → (c : ℕ) → AccessesColumn g i c → eval_end g i ≢ Cancelled → IsTrue (is_listed (list_at run.back c) i)
+  pub put_back : stage_over s ≡ true → (c : ℕ) → AccessesColumn g i c → end_with does zero_cells g i ≢ Cancelled → IsTrue (is_listed (list_at run.back c) i)
   pub back : (c : ℕ) → IsTrue (is_listed (list_at run.back c) i) → stage_started s ≡ true
   -- phases
   pub arrived : IsTrue (is_listed run.arrived i) → stage_started s ≡ true
-  pub put_in : stage_over s ≡ true → IsTrue (line_passes is_arrive g i) → eval_end g i ≢ Cancelled → IsTrue (is_listed run.arrived i)
+  pub put_in : stage_over s ≡ true → IsTrue (line_passes is_arrive g i) → end_with does zero_cells g i ≢ Cancelled → IsTrue (is_listed run.arrived i)
   -- reservations
   pub holds : (l : ℕ) → IsTrue (is_listed (list_at run.holders l) i) → stage_started s ≡ true
   pub freed : IsTrue (is_listed run.freed i) → stage_over s ≡ true
-  pub frees : stage_ended s ≡ true → (q : ℕ) → Releases g i q → eval_end g q ≡ Done → IsTrue (is_listed run.freed i)
+  pub frees : stage_ended s ≡ true → (q : ℕ) → Releases g i q → end_with does zero_cells g q ≡ Done → IsTrue (is_listed run.freed i)
   -- times
   pub has_time : stage_over s ≡ true → IsTrue (timed run.times i)
   pub timed_goes : IsTrue (timed run.times i) → stage_started s ≡ true
 
-module _ (g : GraphValue) (run : Run) (sound : Sound g run) (i : ℕ) (s : LineStage) (m : LineGoes g run i s) where
+module _ {does : Effects} (g : GraphValue) (run : Run) (sound : SoundWith does g run) (i : ℕ) (s : LineStage) (m : LineGoes does g run i s) where
   gone : List LineStage
   gone = slice_set run.stages i s
 
@@ -58,7 +59,7 @@ module _ (g : GraphValue) (run : Run) (sound : Sound g run) (i : ℕ) (s : LineS
   unfolding gone
   issued_stays = each_gone (λ k x. issued run.stages k ≡ true → stage_issued x ≡ true) (λ h. m.is_issued) (λ k h. h)
 
-  gone_lines : SoundLines g gone
+  gone_lines : SoundLinesWith does g gone
   unfolding gone
   gone_lines =
       let t = sound.on_lines in
@@ -69,10 +70,10 @@ module _ (g : GraphValue) (run : Run) (sound : Sound g run) (i : ℕ) (s : LineS
         comes = each_gone (λ k x. stage_started x ≡ true → never_comes g k ≡ false) m.comes t.comes;
         sources = λ e c. each_gone (λ k x. e.to ≡ k → stage_started x ≡ true → ended gone e.from ≡ true)
             (λ to h. ended_stays e.from (m.sources h e c to)) (λ k to h. ended_stays e.from (t.sources e c (ap (started run.stages) to ∙ h))) e.to refl;
-        ends = each_gone (λ k x. (y : End) → kept_end x ≡ Some y → eval_end g k ≡ y) m.ends t.ends;
+        ends = each_gone (λ k x. (y : End) → kept_end x ≡ Some y → end_with does zero_cells g k ≡ y) m.ends t.ends;
       }
 
-  gone_columns : SoundColumns g gone run.places run.back
+  gone_columns : SoundColumnsWith does g gone run.places run.back
   gone_columns =
       let t = sound.on_columns in
       record {
@@ -82,14 +83,14 @@ module _ (g : GraphValue) (run : Run) (sound : Sound g run) (i : ℕ) (s : LineS
         had_accessed = t.had_accessed;
         had_not_cancelled = t.had_not_cancelled;
         had_not_back = t.had_not_back;
-        over_back = λ c. each_gone (λ k x. stage_over x ≡ true → AccessesColumn g k c → eval_end g k ≢ Cancelled → is_listed (list_at run.back c) k ≡ true) (λ h. m.put_back h c) (t.over_back c);
+        over_back = λ c. each_gone (λ k x. stage_over x ≡ true → AccessesColumn g k c → end_with does zero_cells g k ≢ Cancelled → is_listed (list_at run.back c) k ≡ true) (λ h. m.put_back h c) (t.over_back c);
         back_started = λ c. each_gone (λ k x. is_listed (list_at run.back c) k ≡ true → stage_started x ≡ true) (m.back c) (t.back_started c);
         back_accessed = t.back_accessed;
         back_not_cancelled = t.back_not_cancelled;
         cells = t.cells;
       }
 
-  gone_phases : SoundPhases g gone run.values run.arrived
+  gone_phases : SoundPhasesWith does g gone run.values run.arrived
   gone_phases =
       let t = sound.on_phases in
       record {
@@ -99,10 +100,10 @@ module _ (g : GraphValue) (run : Run) (sound : Sound g run) (i : ℕ) (s : LineS
         arrived_arrives = t.arrived_arrives;
         arrived_once = t.arrived_once;
         arrived_not_cancelled = t.arrived_not_cancelled;
-        over_arrived = each_gone (λ k x. stage_over x ≡ true → line_passes is_arrive g k ≡ true → eval_end g k ≢ Cancelled → is_listed run.arrived k ≡ true) m.put_in t.over_arrived;
+        over_arrived = each_gone (λ k x. stage_over x ≡ true → line_passes is_arrive g k ≡ true → end_with does zero_cells g k ≢ Cancelled → is_listed run.arrived k ≡ true) m.put_in t.over_arrived;
       }
 
-  gone_locks : SoundLocks g gone run.times run.holders run.freed
+  gone_locks : SoundLocksWith does g gone run.times run.holders run.freed
   gone_locks =
       let t = sound.on_locks in
       record {
@@ -119,7 +120,7 @@ module _ (g : GraphValue) (run : Run) (sound : Sound g run) (i : ℕ) (s : LineS
         ended_freed = λ r q rel h d. each_gone (λ k x. Releases g k q → stage_ended x ≡ true → is_listed run.freed k ≡ true) (λ rel h. m.frees h q rel d) (λ k rel h. t.ended_freed k q rel h d) r rel h;
       }
 
-  gone_times : SoundTimes g gone run.times run.clock
+  gone_times : SoundTimesWith does g gone run.times run.clock
   gone_times =
       let t = sound.on_times in
       record {
@@ -134,11 +135,12 @@ module _ (g : GraphValue) (run : Run) (sound : Sound g run) (i : ℕ) (s : LineS
         sections_first = t.sections_first;
       }
 
-  pub sound_staged : Sound g (staged run i s)
+  pub sound_staged : SoundWith does g (staged run i s)
   unfolding gone
   sound_staged = record {
     graph = sound.graph;
     accepted = sound.accepted;
+    keeps = sound.keeps;
     on_lines = gone_lines;
     on_columns = gone_columns;
     on_phases = gone_phases;
@@ -151,8 +153,8 @@ fails : (t : LineStage → Bool) (a b : LineStage) → t a ≡ true → a ≡ b 
 fails t a b h e f = true≢false (sym h ∙ (ap t e ∙ f))
 
 -- a line issued
-pub issue-sound : {g : GraphValue} {run : Run} → Sound g run → (i : ℕ) → MayIssue g run i → Sound g (issue run i)
-issue-sound {g} {run} s i m = sound_staged g run s i Issued (record {
+pub issue-sound : {does : Effects} {g : GraphValue} {run : Run} → SoundWith does g run → (i : ℕ) → MayIssue g run i → SoundWith does g (issue run i)
+issue-sound {does} {g} {run} s i m = sound_staged g run s i Issued (record {
   there = subst (λ n. i < n) (sym s.on_lines.each_line) m.is_line;
   is_issued = refl;
   before = m.before;
@@ -173,12 +175,12 @@ issue-sound {g} {run} s i m = sound_staged g run s i Issued (record {
 })
 
 -- the lines before an issued one are issued
-earlier : {g : GraphValue} {run : Run} → Sound g run → (i : ℕ) → issued run.stages i ≡ true → (j : ℕ) → j < i → issued run.stages j ≡ true
-earlier s i h j less = s.on_lines.in_order i j less h
+earlier : {does : Effects} {g : GraphValue} {run : Run} → SoundWith does g run → (i : ℕ) → issued run.stages i ≡ true → (j : ℕ) → j < i → issued run.stages j ≡ true
+earlier {does} s i h j less = s.on_lines.in_order i j less h
 
 -- a line claimed
-pub claim-sound : {g : GraphValue} {run : Run} → Sound g run → (i : ℕ) → MayClaim g run i → Sound g (claim run i)
-claim-sound {g} {run} s i m = let is : issued run.stages i ≡ true = ap stage_issued m.is_issued in sound_staged g run s i Out (record {
+pub claim-sound : {does : Effects} {g : GraphValue} {run : Run} → SoundWith does g run → (i : ℕ) → MayClaim g run i → SoundWith does g (claim run i)
+claim-sound {does} {g} {run} s i m = let is : issued run.stages i ≡ true = ap stage_issued m.is_issued in sound_staged g run s i Out (record {
   there = stage_there run.stages i is;
   is_issued = refl;
   before = earlier s i is;
@@ -199,8 +201,8 @@ claim-sound {g} {run} s i m = let is : issued run.stages i ≡ true = ap stage_i
 })
 
 -- a claim given back
-pub unclaim-sound : {g : GraphValue} {run : Run} → Sound g run → (i : ℕ) → MayUnclaim g run i → Sound g (unclaim run i)
-unclaim-sound {g} {run} s i m = let is : issued run.stages i ≡ true = ap stage_issued m.is_out in sound_staged g run s i Issued (record {
+pub unclaim-sound : {does : Effects} {g : GraphValue} {run : Run} → SoundWith does g run → (i : ℕ) → MayUnclaim g run i → SoundWith does g (unclaim run i)
+unclaim-sound {does} {g} {run} s i m = let is : issued run.stages i ≡ true = ap stage_issued m.is_out in sound_staged g run s i Issued (record {
   there = stage_there run.stages i is;
   is_issued = refl;
   before = earlier s i is;
@@ -221,8 +223,8 @@ unclaim-sound {g} {run} s i m = let is : issued run.stages i ≡ true = ap stage
 })
 
 -- a line ending
-pub ending-sound : {g : GraphValue} {run : Run} → Sound g run → (i : ℕ) (x : End) → MayEnd g run i x → Sound g (ending run i x)
-ending-sound {g} {run} s i x m = let is : issued run.stages i ≡ true = ap stage_issued m.is_out in let begun : started run.stages i ≡ true = ap stage_started m.is_out in sound_staged g run s i (Ending x) (record {
+pub ending-sound : {does : Effects} {g : GraphValue} {run : Run} → SoundWith does g run → (i : ℕ) (x : End) → MayEndWith does g run i x → SoundWith does g (ending run i x)
+ending-sound {does} {g} {run} s i x m = let is : issued run.stages i ≡ true = ap stage_issued m.is_out in let begun : started run.stages i ≡ true = ap stage_started m.is_out in sound_staged g run s i (Ending x) (record {
   there = stage_there run.stages i is;
   is_issued = refl;
   before = earlier s i is;
@@ -243,8 +245,8 @@ ending-sound {g} {run} s i x m = let is : issued run.stages i ≡ true = ap stag
 })
 
 -- a line ended
-pub close-sound : {g : GraphValue} {run : Run} → Sound g run → (i : ℕ) (x : End) → MayClose g run i x → Sound g (close run i x)
-close-sound {g} {run} s i x m =
+pub close-sound : {does : Effects} {g : GraphValue} {run : Run} → SoundWith does g run → (i : ℕ) (x : End) → MayCloseWith does g run i x → SoundWith does g (close run i x)
+close-sound {does} {g} {run} s i x m =
     let is : issued run.stages i ≡ true = ap stage_issued m.is_ending in
     let begun : started run.stages i ≡ true = ap stage_started m.is_ending in
     let done : over run.stages i ≡ true = ap stage_over m.is_ending in

@@ -13,13 +13,15 @@ use Rattle.graph_terms.specs.declared.verb.Verb.TheVariants.{Phase}
 use Rattle.graph_terms.specs.declared.decl.BarrierInfo.{BarrierInfo}
 use Rattle.graph_terms.specs.declared.decl.ColumnInfo.{ColumnInfo}
 use Rattle.graph_terms.specs.Graph.{GraphValue, barriers, columns, locks, space_at, column_space, verb_at}
-use Rattle.graph_meaning.specs.Effect.{zero_cells, cells_after}
-use Rattle.graph_meaning.specs.Evaluation.{order, eval_changes, cells_of_lines}
+use Rattle.graph_meaning.specs.Effect.{Effects, zero_cells, cells_after}
+use Rattle.graph_meaning.specs.Evaluation.{order_with, changes_with, cells_of_lines_with}
 use Rattle.graph_meaning.specs.Rules.{Accepted}
 use Rattle.graph_terms.specs.Fits.{IsGraph}
 use Rattle.run_state.specs.Run.{LineStage, Unissued, Home, Had, is_listed, timed, stage_at, time_at, place_at, list_at, stage_issued, stage_started, stage_over, stage_ended, kept_end}
-use Rattle.run_state.specs.Sound.{home_cells, Sound}
+use Rattle.run_state.specs.Sound.{home_cells_with, SoundWith, Sound}
 use Rattle.run_state.specs.Start.{first_by, first_value, zeros, start}
+use Rattle.run_state.specs.Verdicts.{KeepsToColumns}
+use Rattle.run_state.proofs.Verdicts.{verbs_keep_to_columns}
 use Rattle.run_state.proofs.Lists.{none_listed}
 use Rattle.graph_terms.proofs.Public.{verb_below}
 use Rattle.run_state.proofs.Columns.{had_not_home, home_one}
@@ -29,9 +31,9 @@ filter_none : (ks : List ℕ) → filter (λ k. false) ks ≡ []
 filter_none [] = refl
 filter_none (k ∷ ks) = filter_none ks
 
-home_at_start : (g : GraphValue) (c : ℕ) → zeros g c ≡ home_cells g [] c
-home_at_start g c = map_same (λ p. 0) (cells_of_lines g (is_listed []) c) (points (column_space g c))
-    (λ p. sym (ap (λ ks. cells_after zero_cells (flat_map (eval_changes g) ks) c p) (filter_none (order g))))
+home_at_start : (does : Effects) (g : GraphValue) (c : ℕ) → zeros g c ≡ home_cells_with does g [] c
+home_at_start does g c = map_same (λ p. 0) (cells_of_lines_with does zero_cells g (is_listed []) c) (points (column_space g c))
+    (λ p. sym (ap (λ ks. cells_after zero_cells (flat_map (changes_with does zero_cells g) ks) c p) (filter_none (order_with does zero_cells g))))
 
 module _ (g : GraphValue) (f : IsGraph g) (accepted : Accepted g) where
   pub no_stage : (t : LineStage → Bool) (i : ℕ) → t (stage_at (start g).stages i) ≡ true → t Unissued ≡ true
@@ -55,23 +57,24 @@ module _ (g : GraphValue) (f : IsGraph g) (accepted : Accepted g) where
   zeros_past : (c : ℕ) → length (columns g) ≤ c → zeros g c ≡ []
   zeros_past c past = ap (λ (o : Option ColumnInfo). map (λ p. 0) (points (option_map_or (λ (x : ColumnInfo). space_at g x.space) o []))) (slice_get_past (columns g) c past)
 
-  start_cells : (c : ℕ) (xs : List ℕ) → place_at (start g).places c ≡ Home xs → xs ≡ home_cells g (list_at (start g).back c) c
-  start_cells c xs e =
+  start_cells : (does : Effects) (c : ℕ) (xs : List ℕ) → place_at (start g).places c ≡ Home xs → xs ≡ home_cells_with does g (list_at (start g).back c) c
+  start_cells does c xs e =
       elim (cases_lt c (length (columns g))) [
         | inl h ↦ home_one xs (zeros g c) (sym e ∙ get_or-map-range_with_len (λ c. Home (zeros g c)) 0 (length (columns g)) c c (Home []) h (let z : 0 + c ≡ c = omega arith in z))
         | inr past ↦ home_one xs [] (sym e ∙ get_or_past (start g).places c (Home []) (subst (λ m. m ≤ c) (sym (length-map-range_with_len (λ c. Home (zeros g c)) 0 (length (columns g)))) past)) ∙ sym (zeros_past c past)
       ]
-      ∙ (home_at_start g c ∙ ap (λ ks. home_cells g ks c) (sym (same_at {X = List ℕ} [] (length (columns g)) c)))
+      ∙ (home_at_start does g c ∙ ap (λ ks. home_cells_with does g ks c) (sym (same_at {X = List ℕ} [] (length (columns g)) c)))
 
   start_value : (p b : ℕ) (x : BarrierInfo) → verb_at g p ≡ Some (Phase b) → slice_get (barriers g) b ≡ Some x → slice_index (start g).values p ≡ x.first
   start_value p b x e at =
       get_or-map-range_with_len (first_value g) 0 (length g.lines) p p 0 (verb_below g p (Phase b) e) (let z : 0 + p ≡ p = omega arith in z)
       ∙ (ap (λ (o : Option Verb). option_map_or (first_by g) o 0) e ∙ ap (λ (o : Option BarrierInfo). option_map_or (λ (x : BarrierInfo). x.first) o 0) at)
 
-  pub start_is_sound : Sound g (start g)
-  start_is_sound = record {
+  pub start_is_sound_with : {does : Effects} → KeepsToColumns g does → SoundWith does g (start g)
+  start_is_sound_with {does} keeps = record {
     graph = f;
     accepted = accepted;
+    keeps = keeps;
     on_lines = record {
       each_line = length-map-range_with_len (λ i. Unissued) 0 (length g.lines);
       in_order = λ i j less h. absurd (true≢false (sym (no_stage stage_issued i h)));
@@ -90,7 +93,7 @@ module _ (g : GraphValue) (f : IsGraph g) (accepted : Accepted g) where
       back_started = λ c i h. absurd (no_list (length (columns g)) c i h);
       back_accessed = λ c i h. absurd (no_list (length (columns g)) c i h);
       back_not_cancelled = λ c i h. absurd (no_list (length (columns g)) c i h);
-      cells = start_cells;
+      cells = start_cells does;
     };
     on_phases = record {
       each_value = length-map-range_with_len (first_value g) 0 (length g.lines);
@@ -126,3 +129,6 @@ module _ (g : GraphValue) (f : IsGraph g) (accepted : Accepted g) where
       sections_first = λ l q k a b aq ak apart nq nk ea. absurd (no_time q a ea);
     };
   }
+
+  pub start_is_sound : Sound g (start g)
+  start_is_sound = start_is_sound_with (verbs_keep_to_columns g)

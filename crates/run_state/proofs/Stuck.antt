@@ -7,10 +7,11 @@ use Rattle.graph_terms.specs.declared.verb.Verb.{Verb}
 use Rattle.graph_terms.specs.Graph.{GraphValue, verb_at, is_acquire_of}
 use Rattle.graph_terms.specs.Reservations.{Acquires}
 use Rattle.run_state.specs.Run.{LineStage, Unissued, Issued, Out, Ending, Ended, Run, Had, is_listed, stage_at, place_at, list_at, stage_issued, stage_out, stage_over, stage_ended, started, ended}
-use Rattle.run_state.specs.Sound.{IsOpenTo, Sound}
-use Rattle.run_state.specs.Quiet.{IsFree, Stuck}
+use Rattle.run_state.specs.Sound.{IsOpenTo, SoundWith}
+use Rattle.run_state.specs.Quiet.{IsFreeWith, StuckWith}
 use Rattle.run_state.proofs.Lists.{listed_here, none_listed, started_cases}
 use Rattle.graph_terms.proofs.Public.{passes_verb, verb_passes, acquire_one, acquire_some}
+use Rattle.graph_meaning.specs.Effect.{Effects}
 
 -- what is left of the stages where no line is out or ending
 issued_only : (s : LineStage) → stage_issued s ≡ true → stage_out s ≡ false → (stage_over s ≡ true → stage_ended s ≡ true) → stage_ended s ≡ false → s ≡ Issued
@@ -24,7 +25,7 @@ issued_only (Ended x) i o e l = absurd (true≢false l)
 abbrev pub Blocked : GraphValue → Run → ℕ → Type 0
 Blocked g run m = (l : ℕ) × Acquires g m l × ((h : ℕ) × (is_listed (list_at run.holders l) h ≡ true))
 
-module _ (g : GraphValue) (run : Run) (s : Sound g run) (k : ℕ) (q : Stuck g run k) where
+module _ {does : Effects} (g : GraphValue) (run : Run) (s : SoundWith does g run) (k : ℕ) (q : StuckWith does g run k) where
   -- a line that was taken is ended
   pub stuck_ended : (i : ℕ) → started run.stages i ≡ true → ended run.stages i ≡ true
   stuck_ended i h = elim (started_cases (stage_at run.stages i) h) [
@@ -44,7 +45,7 @@ module _ (g : GraphValue) (run : Run) (s : Sound g run) (k : ℕ) (q : Stuck g r
   holder_of l m [] e ne = absurd (ne (λ h held. absurd (none_listed h (ap (λ ks. is_listed ks h) (sym e) ∙ held))))
   holder_of l m (h ∷ hs) e ne = (h, ap (λ ks. is_listed ks h) e ∙ listed_here h hs)
 
-  blocked_by : (m : ℕ) → (IsFree g run m → ⊥) → (o : Option Verb) → verb_at g m ≡ o → Blocked g run m
+  blocked_by : (m : ℕ) → (IsFreeWith does g run m → ⊥) → (o : Option Verb) → verb_at g m ≡ o → Blocked g run m
   blocked_by m not_free None e = absurd (not_free (inr ((λ l b. let v = passes_verb (is_acquire_of l) g m b in absurd (none-some v.0 (sym e ∙ v.1))), λ c x j. stuck_home c j)))
   blocked_by m not_free (Some v) e = elim (acquire_some v) [
     | inl a ↦ (
@@ -54,5 +55,5 @@ module _ (g : GraphValue) (run : Run) (s : Sound g run) (k : ℕ) (q : Stuck g r
   ]
 
   -- a line that is not free acquires a reservation that is held
-  pub blocked : (m : ℕ) → (IsFree g run m → ⊥) → Blocked g run m
+  pub blocked : (m : ℕ) → (IsFreeWith does g run m → ⊥) → Blocked g run m
   blocked m not_free = blocked_by m not_free (verb_at g m) refl

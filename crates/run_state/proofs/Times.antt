@@ -8,16 +8,17 @@ use Rattle.graph_terms.specs.declared.outcome.End.TheVariants.{Cancelled}
 use Rattle.graph_terms.specs.Graph.{GraphValue}
 use Rattle.graph_meaning.specs.Path.{last}
 use Rattle.graph_terms.specs.Reservations.{Acquires, Releases, both_shared}
-use Rattle.graph_meaning.specs.Evaluation.{eval_end}
+use Rattle.graph_meaning.specs.Evaluation.{end_with}
 use Rattle.run_state.specs.Run.{Run, is_listed, stage_at, time_at, list_at, started, over, ended, timed}
-use Rattle.run_state.specs.Sound.{SoundLocks, SoundTimes, Sound}
+use Rattle.run_state.specs.Sound.{SoundLocksWith, SoundTimesWith, SoundWith}
 use Rattle.run_state.specs.Moves.{draw}
 use Rattle.basics.proofs.ListFacts.{one_more_counted}
 use Rattle.run_state.proofs.Lists.{each_set, stage_there, out_started, out_not_ended, started_issued}
 use Rattle.basics.proofs.Choices.{some_is, is_some_of}
-use Rattle.run_state.specs.Premises.{MayDraw}
+use Rattle.run_state.specs.Premises.{MayDrawWith}
+use Rattle.graph_meaning.specs.Effect.{Effects, zero_cells}
 
-module _ (g : GraphValue) (run : Run) (s : Sound g run) (i : ℕ) (m : MayDraw g run i) where
+module _ {does : Effects} (g : GraphValue) (run : Run) (s : SoundWith does g run) (i : ℕ) (m : MayDrawWith does g run i) where
   there : i < length run.times
   there = subst (λ n. i < n) (s.on_lines.each_line ∙ sym s.on_times.each_time) (stage_there run.stages i (started_issued (stage_at run.stages i) (out_started (stage_at run.stages i) m.is_out)))
 
@@ -38,7 +39,7 @@ module _ (g : GraphValue) (run : Run) (s : Sound g run) (i : ℕ) (m : MayDraw g
   earlier : (k t : ℕ) → time_at run.times k ≡ Some t → t < run.clock
   earlier = s.on_times.below_clock
 
-  section_before : (l q t : ℕ) → Acquires g q l → Acquires g i l → both_shared g q i ≡ false → eval_end g q ≢ Cancelled → eval_end g i ≢ Cancelled → time_at run.times q ≡ Some t →
+  section_before : (l q t : ℕ) → Acquires g q l → Acquires g i l → both_shared g q i ≡ false → end_with does zero_cells g q ≢ Cancelled → end_with does zero_cells g i ≢ Cancelled → time_at run.times q ≡ Some t →
       (r u : ℕ) × Releases g r q × (time_at drawn r ≡ Some u) × (u < run.clock)
   section_before l q t aq ai apart nq ni e = elim (s.on_locks.timed_holds l q aq (is_some_of (time_at run.times q) t e) nq) [
     | inl held ↦ elim (cases_eq q i) [
@@ -49,7 +50,7 @@ module _ (g : GraphValue) (run : Run) (s : Sound g run) (i : ℕ) (m : MayDraw g
         (f.0, u.0, f.1, time_stays f.0 u.0 u.1, earlier f.0 u.0 u.1))
   ]
 
-  draw_times : SoundTimes g run.stages drawn (run.clock + 1)
+  draw_times : SoundTimesWith does g run.stages drawn (run.clock + 1)
   unfolding drawn
   draw_times =
       let t = s.on_times in
@@ -95,14 +96,14 @@ module _ (g : GraphValue) (run : Run) (s : Sound g run) (i : ℕ) (m : MayDraw g
             | inr old ↦ (let x : v < run.clock = earlier k v old in let y : run.clock ≡ u = new.1 in absurd (omega arith))
           ]
           | inr old ↦ elim (time_cases k v ev) [
-            | inl new ↦ (let b = section_before l q u aq (subst (λ x. Acquires g x l) new.0 ak) (subst (λ x. both_shared g q x ≡ false) new.0 apart) nq (subst (λ x. eval_end g x ≢ Cancelled) new.0 nk) old in
+            | inl new ↦ (let b = section_before l q u aq (subst (λ x. Acquires g x l) new.0 ak) (subst (λ x. both_shared g q x ≡ false) new.0 apart) nq (subst (λ x. end_with does zero_cells g x ≢ Cancelled) new.0 nk) old in
                 (b.0, b.1, b.2, b.3, subst (λ x. b.1 < x) new.1 b.4))
             | inr both ↦ (let b = t.sections_first l q k u v aq ak apart nq nk old both less in (b.0, b.1, b.2, time_stays b.0 b.1 b.3, b.4))
           ]
         ];
       }
 
-  draw_locks : SoundLocks g run.stages drawn run.holders run.freed
+  draw_locks : SoundLocksWith does g run.stages drawn run.holders run.freed
   unfolding drawn
   draw_locks =
       let t = s.on_locks in
@@ -112,7 +113,7 @@ module _ (g : GraphValue) (run : Run) (s : Sound g run) (i : ℕ) (m : MayDraw g
         holder_started = t.holder_started;
         holder_not_cancelled = t.holder_not_cancelled;
         holder_alone = t.holder_alone;
-        timed_holds = λ l. each_set (λ q o. Acquires g q l → is_some o ≡ true → eval_end g q ≢ Cancelled → (is_listed (list_at run.holders l) q ≡ true) ⊎ ((r : ℕ) × Releases g r q × (is_listed run.freed r ≡ true))) run.times None i (Some run.clock) there
+        timed_holds = λ l. each_set (λ q o. Acquires g q l → is_some o ≡ true → end_with does zero_cells g q ≢ Cancelled → (is_listed (list_at run.holders l) q ≡ true) ⊎ ((r : ℕ) × Releases g r q × (is_listed run.freed r ≡ true))) run.times None i (Some run.clock) there
             (λ a h n. inl (m.holds l a n)) (λ k ne. t.timed_holds l k);
         freed_over = t.freed_over;
         freed_ended = t.freed_ended;
@@ -121,11 +122,12 @@ module _ (g : GraphValue) (run : Run) (s : Sound g run) (i : ℕ) (m : MayDraw g
         ended_freed = t.ended_freed;
       }
 
-  sound_drawn : Sound g (draw run i)
+  sound_drawn : SoundWith does g (draw run i)
   unfolding drawn
   sound_drawn = record {
     graph = s.graph;
     accepted = s.accepted;
+    keeps = s.keeps;
     on_lines = s.on_lines;
     on_columns = s.on_columns;
     on_phases = s.on_phases;
@@ -134,5 +136,5 @@ module _ (g : GraphValue) (run : Run) (s : Sound g run) (i : ℕ) (m : MayDraw g
   }
 
 -- a time drawn
-pub draw-sound : {g : GraphValue} {run : Run} → Sound g run → (i : ℕ) → MayDraw g run i → Sound g (draw run i)
-draw-sound {g} {run} s i m = sound_drawn g run s i m
+pub draw-sound : {does : Effects} {g : GraphValue} {run : Run} → SoundWith does g run → (i : ℕ) → MayDrawWith does g run i → SoundWith does g (draw run i)
+draw-sound {does} {g} {run} s i m = sound_drawn g run s i m

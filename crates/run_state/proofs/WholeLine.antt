@@ -12,10 +12,10 @@ use Rattle.graph_terms.specs.declared.verb.Verb.TheVariants.{Acquire}
 use Rattle.graph_terms.specs.Graph.{GraphValue, verb_at, is_acquire_of}
 use Rattle.graph_terms.specs.Access.{accesses}
 use Rattle.graph_terms.specs.Reservations.{Acquires}
-use Rattle.graph_meaning.specs.Evaluation.{eval_end}
+use Rattle.graph_meaning.specs.Evaluation.{end_with}
 use Rattle.basics.proofs.ListFacts.{contains_map, map_contains}
 use Rattle.run_state.specs.Run.{LineStage, Unissued, Issued, Out, Place, Home, Had, Run, is_listed, stage_at, place_at, list_at, stage_issued, stage_out, stage_started, stage_over, stage_ended, started, ended, timed}
-use Rattle.run_state.specs.Sound.{AccessesColumn, Sound}
+use Rattle.run_state.specs.Sound.{AccessesColumn, SoundWith}
 use Rattle.run_state.specs.Moves.{claim, column_out, inserted}
 use Rattle.run_state.specs.WholeLine.{column_list, lock_by, lock_of, all_had, columns_out, holders_with, hold_some, take_whole}
 use Rattle.run_state.proofs.Lists.{each_set, listed_contains, contains_listed, listed_here, listed_there, listed_cases, none_listed, stage_there}
@@ -25,9 +25,10 @@ use Rattle.run_state.proofs.Stages.{claim-sound}
 use Rattle.run_state.proofs.Locks.{with_holder, holder_more, holder_new, hold-sound}
 use Rattle.graph_terms.proofs.Public.{acquire_of_is, passes_verb, acquired_lock_known}
 use Rattle.run_state.proofs.Reductions.{Fresh}
-use Rattle.run_state.specs.AtRest.{AtRest, MayTakeWhole}
-use Rattle.run_state.specs.Premises.{MayTakeColumn, MayHold}
+use Rattle.run_state.specs.AtRest.{AtRestWith, MayTakeWholeWith}
+use Rattle.run_state.specs.Premises.{MayTakeColumnWith, MayHoldWith}
 use Rattle.run_state.specs.Laws.{ReservationOfAcquire, AccessedColumnsAreListed}
+use Rattle.graph_meaning.specs.Effect.{Effects, zero_cells}
 
 -- the columns of a line by their numbers
 pub listed_accessed : (g : GraphValue) (i c : ℕ) → is_listed (column_list g i) c ≡ true → AccessesColumn g i c
@@ -40,8 +41,8 @@ pub not_the_first : (c d : ℕ) (cs : List ℕ) → Fresh (c ∷ cs) → is_list
 not_the_first c d cs f h e = true≢false (sym h ∙ (ap (is_listed cs) e ∙ f.0))
 
 -- several columns out
-may_take_later : {g : GraphValue} {run : Run} → (c d i : ℕ) → (d ≡ c → ⊥) → MayTakeColumn g run d i → MayTakeColumn g (column_out run c i) d i
-may_take_later {g} {run} c d i ne m = record {
+may_take_later : {does : Effects} {g : GraphValue} {run : Run} → (c d i : ℕ) → (d ≡ c → ⊥) → MayTakeColumnWith does g run d i → MayTakeColumnWith does g (column_out run c i) d i
+may_take_later {does} {g} {run} c d i ne m = record {
   is_out = m.is_out;
   accessed = m.accessed;
   not_cancelled = m.not_cancelled;
@@ -49,9 +50,9 @@ may_take_later {g} {run} c d i ne m = record {
   at_home = λ k e. m.at_home k (sym (get_or-set_other run.places c d (Had i) (Home []) ne) ∙ e);
 }
 
-pub columns_out-sound : {g : GraphValue} {run : Run} → Sound g run → (i : ℕ) (cs : List ℕ) → Fresh cs → ((c : ℕ) → is_listed cs c ≡ true → MayTakeColumn g run c i) → Sound g (columns_out run i cs)
-columns_out-sound {g} {run} s i [] f m = s
-columns_out-sound {g} {run} s i (c ∷ cs) f m = columns_out-sound (column_out-sound s c i (m c (listed_here c cs))) i cs f.1
+pub columns_out-sound : {does : Effects} {g : GraphValue} {run : Run} → SoundWith does g run → (i : ℕ) (cs : List ℕ) → Fresh cs → ((c : ℕ) → is_listed cs c ≡ true → MayTakeColumnWith does g run c i) → SoundWith does g (columns_out run i cs)
+columns_out-sound {does} {g} {run} s i [] f m = s
+columns_out-sound {does} {g} {run} s i (c ∷ cs) f m = columns_out-sound (column_out-sound s c i (m c (listed_here c cs))) i cs f.1
     (λ d h. may_take_later c d i (not_the_first c d cs f h) (m d (listed_there c d cs h)))
 
 pub all_had_other : (places : List Place) (i : ℕ) (cs : List ℕ) (c : ℕ) → (is_listed cs c ≡ true → ⊥) → place_at (all_had places i cs) c ≡ place_at places c
@@ -84,9 +85,9 @@ lock_acquires g q l h = by_option (verb_at g q) h
 pub acquires_lock : ReservationOfAcquire
 acquires_lock g q l a = let v = passes_verb (is_acquire_of l) g q a in ap (λ (o : Option Verb). option_map_or lock_by o None) v.1 ∙ ap lock_by (acquire_of_is l v.0 v.2)
 
-hold_some-sound : {g : GraphValue} {run : Run} → Sound g run → (i : ℕ) (o : Option ℕ) → ((l : ℕ) → o ≡ Some l → MayHold g run l i) → Sound g (hold_some run i o)
-hold_some-sound s i None m = s
-hold_some-sound s i (Some l) m = hold-sound s l i (m l refl)
+hold_some-sound : {does : Effects} {g : GraphValue} {run : Run} → SoundWith does g run → (i : ℕ) (o : Option ℕ) → ((l : ℕ) → o ≡ Some l → MayHoldWith does g run l i) → SoundWith does g (hold_some run i o)
+hold_some-sound {does} s i None m = s
+hold_some-sound {does} s i (Some l) m = hold-sound s l i (m l refl)
 
 held_more : (holders : List (List ℕ)) (i : ℕ) (o : Option ℕ) → ((l : ℕ) → o ≡ Some l → l < length holders) → (l k : ℕ) → is_listed (list_at holders l) k ≡ true → is_listed (list_at (holders_with holders i o) l) k ≡ true
 unfolding with_holder
@@ -100,11 +101,11 @@ held_new holders i l (Some j) e there = let same : j ≡ l = same_Some j l e in
     subst (λ z. is_listed (list_at (slice_set holders z (inserted i (list_at holders z))) l) i ≡ true) (sym same) (holder_new holders l i there)
 
 -- a line that goes on to a stage before its end leaves the run at rest, where each line keeps what it had
-pub goes_at_rest : {g : GraphValue} {run : Run} → AtRest g run → (i : ℕ) (s : LineStage) (places : List Place) (holders : List (List ℕ)) → i < length run.stages → stage_over s ≡ false → ended run.stages i ≡ false
+pub goes_at_rest : {does : Effects} {g : GraphValue} {run : Run} → AtRestWith does g run → (i : ℕ) (s : LineStage) (places : List Place) (holders : List (List ℕ)) → i < length run.stages → stage_over s ≡ false → ended run.stages i ≡ false
     → ((k c : ℕ) → place_at run.places c ≡ Had k → place_at places c ≡ Had k) → ((l k : ℕ) → is_listed (list_at run.holders l) k ≡ true → is_listed (list_at holders l) k ≡ true)
-    → ((c : ℕ) → stage_out s ≡ true → eval_end g i ≢ Cancelled → AccessesColumn g i c → place_at places c ≡ Had i) → ((l : ℕ) → stage_out s ≡ true → eval_end g i ≢ Cancelled → Acquires g i l → is_listed (list_at holders l) i ≡ true)
-    → (stage_out s ≡ true → timed run.times i ≡ false) → AtRest g record run { stages = slice_set run.stages i s; places = places; holders = holders }
-goes_at_rest {g} {run} rest i s places holders there not_over left has_stays holds_stays has holds untimed =
+    → ((c : ℕ) → stage_out s ≡ true → end_with does zero_cells g i ≢ Cancelled → AccessesColumn g i c → place_at places c ≡ Had i) → ((l : ℕ) → stage_out s ≡ true → end_with does zero_cells g i ≢ Cancelled → Acquires g i l → is_listed (list_at holders l) i ≡ true)
+    → (stage_out s ≡ true → timed run.times i ≡ false) → AtRestWith does g record run { stages = slice_set run.stages i s; places = places; holders = holders }
+goes_at_rest {does} {g} {run} rest i s places holders there not_over left has_stays holds_stays has holds untimed =
     let kept : (k : ℕ) → ended run.stages k ≡ true → ended (slice_set run.stages i s) k ≡ true =
     each_set (λ k x. ended run.stages k ≡ true → stage_ended x ≡ true) run.stages Unissued i s there (λ h. absurd (true≢false (sym h ∙ left))) (λ k ne h. h) in
     record {
@@ -112,13 +113,13 @@ goes_at_rest {g} {run} rest i s places holders there not_over left has_stays hol
       back_ended = λ c k h. kept k (rest.back_ended c k h);
       arrived_ended = λ k h. kept k (rest.arrived_ended k h);
       freed_ended = λ k h. kept k (rest.freed_ended k h);
-      out_has = λ k c. each_set (λ k x. stage_out x ≡ true → eval_end g k ≢ Cancelled → AccessesColumn g k c → place_at places c ≡ Had k) run.stages Unissued i s there (has c) (λ k ne h n a. has_stays k c (rest.out_has k c h n a)) k;
-      out_holds = λ k l. each_set (λ k x. stage_out x ≡ true → eval_end g k ≢ Cancelled → Acquires g k l → is_listed (list_at holders l) k ≡ true) run.stages Unissued i s there (holds l) (λ k ne h n a. holds_stays l k (rest.out_holds k l h n a)) k;
+      out_has = λ k c. each_set (λ k x. stage_out x ≡ true → end_with does zero_cells g k ≢ Cancelled → AccessesColumn g k c → place_at places c ≡ Had k) run.stages Unissued i s there (has c) (λ k ne h n a. has_stays k c (rest.out_has k c h n a)) k;
+      out_holds = λ k l. each_set (λ k x. stage_out x ≡ true → end_with does zero_cells g k ≢ Cancelled → Acquires g k l → is_listed (list_at holders l) k ≡ true) run.stages Unissued i s there (holds l) (λ k ne h n a. holds_stays l k (rest.out_holds k l h n a)) k;
       out_untimed = each_set (λ k x. stage_out x ≡ true → timed run.times k ≡ false) run.stages Unissued i s there untimed (λ k ne. rest.out_untimed k);
     }
 
 -- a claim and what follows it
-module _ {g : GraphValue} {run : Run} (s : Sound g run) (rest : AtRest g run) (i : ℕ) (m : MayTakeWhole g run i) where
+module _ {does : Effects} {g : GraphValue} {run : Run} (s : SoundWith does g run) (rest : AtRestWith does g run) (i : ℕ) (m : MayTakeWholeWith does g run i) where
   is_there : i < length run.stages
   is_there = stage_there run.stages i (ap stage_issued m.is_issued)
 
@@ -128,10 +129,10 @@ module _ {g : GraphValue} {run : Run} (s : Sound g run) (rest : AtRest g run) (i
   begun_not : started run.stages i ≡ true → ⊥
   begun_not h = true≢false (sym h ∙ ap stage_started m.is_issued)
 
-  s_claimed : Sound g (claim run i)
+  s_claimed : SoundWith does g (claim run i)
   s_claimed = claim-sound s i (record { is_issued = m.is_issued; comes = m.comes; sources = m.sources })
 
-  s_held : Sound g (hold_some (claim run i) i (lock_of g i))
+  s_held : SoundWith does g (hold_some (claim run i) i (lock_of g i))
   s_held = hold_some-sound s_claimed i (lock_of g i) (λ l e. record {
     is_out = ap stage_out claimed;
     acquires = lock_acquires g i l e;
@@ -140,7 +141,7 @@ module _ {g : GraphValue} {run : Run} (s : Sound g run) (rest : AtRest g run) (i
   })
 
   -- a line that is taken
-  pub taken_is_sound : Sound g (take_whole g run i)
+  pub taken_is_sound : SoundWith does g (take_whole g run i)
   taken_is_sound = columns_out-sound s_held i (column_list g i) (columns_fresh g s.graph i) (λ c h. record {
     is_out = ap stage_out claimed;
     accessed = listed_accessed g i c h;
@@ -158,12 +159,12 @@ module _ {g : GraphValue} {run : Run} (s : Sound g run) (rest : AtRest g run) (i
   place_new : (c : ℕ) → AccessesColumn g i c → place_at (all_had run.places i (column_list g i)) c ≡ Had i
   place_new c a = all_had_listed run.places i (column_list g i) c (subst (λ n. c < n) (sym s.on_columns.each_column) (column_there s.graph i c a)) (columns_fresh g s.graph i) (accessed_listed g i c a)
 
-  pub taken_is_at_rest : AtRest g (take_whole g run i)
+  pub taken_is_at_rest : AtRestWith does g (take_whole g run i)
   taken_is_at_rest = goes_at_rest rest i Out (all_had run.places i (column_list g i)) (holders_with run.holders i (lock_of g i)) is_there refl (ap stage_ended m.is_issued) place_kept (held_more run.holders i (lock_of g i) lock_below)
       (λ c h n a. place_new c a) (λ l h n a. held_new run.holders i l (lock_of g i) (acquires_lock g i l a) (lock_below l (acquires_lock g i l a)))
       (λ h. false_from_ne_true (timed run.times i) (λ t. begun_not (s.on_times.timed_started i t)))
 
 -- a line that is cancelled is only claimed
-pub claim_is_at_rest : {g : GraphValue} {run : Run} → Sound g run → AtRest g run → (i : ℕ) → stage_at run.stages i ≡ Issued → eval_end g i ≡ Cancelled → AtRest g (claim run i)
-claim_is_at_rest {g} {run} s rest i is cancelled = goes_at_rest rest i Out run.places run.holders (stage_there run.stages i (ap stage_issued is)) refl (ap stage_ended is) (λ k c h. h) (λ l k h. h)
+pub claim_is_at_rest : {does : Effects} {g : GraphValue} {run : Run} → SoundWith does g run → AtRestWith does g run → (i : ℕ) → stage_at run.stages i ≡ Issued → end_with does zero_cells g i ≡ Cancelled → AtRestWith does g (claim run i)
+claim_is_at_rest {does} {g} {run} s rest i is cancelled = goes_at_rest rest i Out run.places run.holders (stage_there run.stages i (ap stage_issued is)) refl (ap stage_ended is) (λ k c h. h) (λ l k h. h)
     (λ c h n. absurd (n cancelled)) (λ l h n. absurd (n cancelled)) (λ h. false_from_ne_true (timed run.times i) (λ t. true≢false (sym (s.on_times.timed_started i t) ∙ ap stage_started is)))

@@ -7,46 +7,47 @@ use Rattle.index_spaces.specs.Space.{points}
 use Rattle.graph_terms.specs.declared.outcome.End.TheVariants.{Cancelled}
 use Rattle.graph_terms.specs.Graph.{GraphValue, column_space, space_at, verb_at}
 use Rattle.graph_terms.specs.Access.{verb_accesses}
-use Rattle.graph_meaning.specs.Effect.{Cells, Effect, cells_after, effect}
-use Rattle.graph_meaning.specs.Evaluation.{has_ended, is_cancelled, end_by, made_by, step_by, evaluation, eval_changes, cells_of, cells_of_lines, column_of}
-use Rattle.graph_meaning.proofs.Public.{cells_after_at, listed_point, accesses_fit, turns_after}
+use Rattle.graph_meaning.specs.Effect.{Cells, Effect, cells_after, Effects, zero_cells}
+use Rattle.graph_meaning.specs.Evaluation.{has_ended, is_cancelled, end_by, made_by, step_by, evaluation_with, changes_with, cells_with, cells_of_lines_with, column_of}
+use Rattle.graph_meaning.proofs.Public.{cells_after_at, listed_point, accesses_fit}
 use Rattle.basics.proofs.ListFacts.{map_agree}
-use Rattle.graph_meaning.proofs.Confluence.{effect_same, agree_in, same_effect}
+use Rattle.run_state.proofs.Verdicts.{keeps_to_accesses}
 use Rattle.run_state.specs.Run.{Run, is_listed, stage_at, list_at, ended}
-use Rattle.run_state.specs.Sound.{AccessesColumn, Sound}
-use Rattle.run_state.specs.Work.{cells_now, HoldsAll, performed, PerformsAsEvaluated}
+use Rattle.run_state.specs.Sound.{AccessesColumn, SoundWith}
+use Rattle.run_state.specs.Work.{cells_now_with, HoldsAllWith, performed_with, PerformsAsEvaluatedWith}
 use Rattle.run_state.proofs.Lists.{out_started}
 use Rattle.run_state.proofs.Started.{started_ends, ready_among}
+use Rattle.run_state.proofs.Evaluated.{turns_with, same_effect_with}
 
 pub step_parts : (i : ℕ) (b : Bool) (e : Effect) → (step_by i b e).ends ≢ Cancelled → ((step_by i b e).ends ≡ end_by e.verdict) × ((step_by i b e).changes ≡ made_by e.verdict e.changes)
 step_parts i true e ne = absurd (ne refl)
 step_parts i false e ne = (refl, refl)
 
-pub not_back_at_all : {g : GraphValue} {run : Run} → Sound g run → (i : ℕ) (cells : Cells) → HoldsAll g run i cells → (c : ℕ) → is_listed (list_at run.back c) i ≡ false
-not_back_at_all {g} {run} s i cells w c = false_from_ne_true (is_listed (list_at run.back c) i) (λ h.
+pub not_back_at_all : {does : Effects} {g : GraphValue} {run : Run} → SoundWith does g run → (i : ℕ) (cells : Cells) → HoldsAllWith does g run i cells → (c : ℕ) → is_listed (list_at run.back c) i ≡ false
+not_back_at_all {does} {g} {run} s i cells w c = false_from_ne_true (is_listed (list_at run.back c) i) (λ h.
     true≢false (sym h ∙ s.on_columns.had_not_back c i (w.has c (s.on_columns.back_accessed c i h))))
 
-pub work_does : {g : GraphValue} {run : Run} → Sound g run → (i : ℕ) (cells : Cells) → HoldsAll g run i cells → PerformsAsEvaluated g i cells
-work_does {g} {run} s i cells w =
-    let h : has_ended (evaluation g) i ≡ true = started_ends s.graph s.accepted s.on_lines i (out_started (stage_at run.stages i) w.is_out) in
-    let t = turns_after g (length g.lines) i h in
-    let own = effect_same (space_at g) cells (cells_now g run) (verb_at g i)
-    (agree_in (space_at g) g.format (option_map_or verb_accesses (verb_at g i) []) cells (cells_now g run)
-    (λ a ha ne p hp. w.holds a.column (a, ha, refl) p ((accesses_fit g i a s.graph ha).within p hp))) in
-    let same = same_effect g s.accepted i t.0 t.1 (ended run.stages) (λ c. is_listed (list_at run.back c)) (ready_among s i w.is_out (not_back_at_all s i cells w)) in
-    let verdict : (effect g i cells).verdict ≡ (effect g i (cells_of t.0)).verdict = own.1 ∙ same.1 in
-    let changes : (effect g i cells).changes ≡ (effect g i (cells_of t.0)).changes = own.0 ∙ same.0 in
-    let parts = step_parts i (is_cancelled g t.0 i) (effect g i (cells_of t.0)) (λ e. w.not_cancelled (t.1.end_is ∙ e)) in
+pub work_does : {does : Effects} {g : GraphValue} {run : Run} → SoundWith does g run → (i : ℕ) (cells : Cells) → HoldsAllWith does g run i cells → PerformsAsEvaluatedWith does g i cells
+work_does {does} {g} {run} s i cells w =
+    let h : has_ended (evaluation_with does zero_cells g) i ≡ true = started_ends s.graph s.accepted s.on_lines i (out_started (stage_at run.stages i) w.is_out) in
+    let t = turns_with does zero_cells g (length g.lines) i h in
+    let own : does i cells ≡ does i (cells_now_with does g run) = s.keeps.agrees i cells (cells_now_with does g run)
+    (λ a ha ne p hp. w.holds a.column (a, ha, refl) p ((accesses_fit g i a s.graph ha).within p hp)) in
+    let same : does i (cells_now_with does g run) ≡ does i (cells_with zero_cells t.0) =
+    same_effect_with does zero_cells g s.accepted (keeps_to_accesses s.keeps) i t.0 t.1 (ended run.stages) (λ c. is_listed (list_at run.back c)) (ready_among s i w.is_out (not_back_at_all s i cells w)) in
+    let verdict : (does i cells).verdict ≡ (does i (cells_with zero_cells t.0)).verdict = ap (λ (e : Effect). e.verdict) (own ∙ same) in
+    let changes : (does i cells).changes ≡ (does i (cells_with zero_cells t.0)).changes = ap (λ (e : Effect). e.changes) (own ∙ same) in
+    let parts = step_parts i (is_cancelled g t.0 i) (does i (cells_with zero_cells t.0)) (λ e. w.not_cancelled (t.1.end_is ∙ e)) in
     record {
       end_is = ap end_by verdict ∙ sym (t.1.end_is ∙ parts.0);
-      changes_are = ap (λ v. made_by v (effect g i cells).changes) verdict ∙ (ap (made_by (effect g i (cells_of t.0)).verdict) changes ∙ sym (t.1.changes_are ∙ parts.1));
+      changes_are = ap (λ v. made_by v (does i cells).changes) verdict ∙ (ap (made_by (does i (cells_with zero_cells t.0)).verdict) changes ∙ sym (t.1.changes_are ∙ parts.1));
     }
 
 -- the cells of each of its columns after it are those that may be put back
-pub work_cells : {g : GraphValue} {run : Run} → Sound g run → (i : ℕ) (cells : Cells) → HoldsAll g run i cells → (c : ℕ) → AccessesColumn g i c →
-    (column_of g (performed g i cells) c).cells ≡ (column_of g (cells_after (cells_of_lines g (is_listed (list_at run.back c))) (eval_changes g i)) c).cells
-work_cells {g} {run} s i cells w c a =
+pub work_cells : {does : Effects} {g : GraphValue} {run : Run} → SoundWith does g run → (i : ℕ) (cells : Cells) → HoldsAllWith does g run i cells → (c : ℕ) → AccessesColumn g i c →
+    (column_of g (performed_with does i cells) c).cells ≡ (column_of g (cells_after (cells_of_lines_with does zero_cells g (is_listed (list_at run.back c))) (changes_with does zero_cells g i)) c).cells
+work_cells {does} {g} {run} s i cells w c a =
     let d = work_does s i cells w in
-    map_agree (λ p. performed g i cells c p) (λ p. cells_after (cells_of_lines g (is_listed (list_at run.back c))) (eval_changes g i) c p) (points (column_space g c))
+    map_agree (λ p. performed_with does i cells c p) (λ p. cells_after (cells_of_lines_with does zero_cells g (is_listed (list_at run.back c))) (changes_with does zero_cells g i) c p) (points (column_space g c))
     (λ p hp. ap (λ xs. cells_after cells xs c p) d.changes_are
-    ∙ cells_after_at cells (cells_of_lines g (is_listed (list_at run.back c))) (eval_changes g i) c p (w.holds c a p (listed_point (column_space g c) p hp)))
+    ∙ cells_after_at cells (cells_of_lines_with does zero_cells g (is_listed (list_at run.back c))) (changes_with does zero_cells g i) c p (w.holds c a p (listed_point (column_space g c) p hp)))

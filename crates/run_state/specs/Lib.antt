@@ -9,3 +9,4 @@ pub mod Quiet
 pub mod Start
 pub mod Apart
 pub mod Laws
+pub mod Verdicts

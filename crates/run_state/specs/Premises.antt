@@ -9,10 +9,11 @@ use Rattle.graph_terms.specs.declared.verb.Verb.TheVariants.{Phase}
 use Rattle.graph_terms.specs.Graph.{GraphValue, barriers, never_comes, verb_at, line_passes}
 use Rattle.graph_terms.specs.Edges.{edges}
 use Rattle.graph_terms.specs.Reservations.{Acquires, Releases}
-use Rattle.graph_meaning.specs.Evaluation.{eval_end}
+use Rattle.graph_meaning.specs.Effect.{Effects, zero_cells}
+use Rattle.graph_meaning.specs.Evaluation.{end_with}
 use Rattle.run_state.specs.Run.{Run, Unissued, Issued, Out, Ending, Had, is_listed, stage_at, time_at, place_at, list_at, issued, out, over, ended, timed}
-use Rattle.run_state.specs.Sound.{AccessesColumn, is_arrive, home_cells, value_for, IsOpenTo}
-use Rattle.run_state.specs.Work.{put_cells}
+use Rattle.run_state.specs.Sound.{AccessesColumn, is_arrive, home_cells_with, value_for, IsOpenTo}
+use Rattle.run_state.specs.Work.{put_cells_with}
 
 -- a line that is issued is the next one
 pub record MayIssue (g : GraphValue) (run : Run) (i : ℕ) : Type 0 where
@@ -36,28 +37,28 @@ pub record MayUnclaim (g : GraphValue) (run : Run) (i : ℕ) : Type 0 where
   pub untimed : timed run.times i ≡ false
 
 -- a line takes a column that it accesses, was not put back on and no line has
-pub record MayTakeColumn (g : GraphValue) (run : Run) (c i : ℕ) : Type 0 where
+pub record MayTakeColumnWith (does : Effects) (g : GraphValue) (run : Run) (c i : ℕ) : Type 0 where
   pub is_out : IsTrue (out run.stages i)
   pub accessed : AccessesColumn g i c
-  pub not_cancelled : eval_end g i ≢ Cancelled
+  pub not_cancelled : end_with does zero_cells g i ≢ Cancelled
   pub not_back : is_listed (list_at run.back c) i ≡ false
   pub at_home : (k : ℕ) → place_at run.places c ≢ Had k
 
 -- a line returns a column that it has with the cells that the column had at home
-pub record MayReturnColumn (g : GraphValue) (run : Run) (c i : ℕ) (xs : List ℕ) : Type 0 where
+pub record MayReturnColumnWith (does : Effects) (g : GraphValue) (run : Run) (c i : ℕ) (xs : List ℕ) : Type 0 where
   pub has : place_at run.places c ≡ Had i
-  pub unchanged : xs ≡ home_cells g (list_at run.back c) c
+  pub unchanged : xs ≡ home_cells_with does g (list_at run.back c) c
 
 -- a line is put back on a column that it has, with these cells changed as the line changes them in the evaluation
-pub record MayPutBackColumn (g : GraphValue) (run : Run) (c i : ℕ) (xs : List ℕ) : Type 0 where
+pub record MayPutBackColumnWith (does : Effects) (g : GraphValue) (run : Run) (c i : ℕ) (xs : List ℕ) : Type 0 where
   pub has : place_at run.places c ≡ Had i
-  pub changed : xs ≡ put_cells g i (list_at run.back c) c
+  pub changed : xs ≡ put_cells_with does g i (list_at run.back c) c
 
 -- an acquire takes its reservation, which no other holds but shared ones where it is shared
-pub record MayHold (g : GraphValue) (run : Run) (l q : ℕ) : Type 0 where
+pub record MayHoldWith (does : Effects) (g : GraphValue) (run : Run) (l q : ℕ) : Type 0 where
   pub is_out : IsTrue (out run.stages q)
   pub acquires : Acquires g q l
-  pub not_cancelled : eval_end g q ≢ Cancelled
+  pub not_cancelled : end_with does zero_cells g q ≢ Cancelled
   pub is_free : IsOpenTo g run.holders l q
 
 -- an acquire lets its reservation go before it has a time
@@ -66,36 +67,36 @@ pub record MayLetGo (g : GraphValue) (run : Run) (l q : ℕ) : Type 0 where
   pub untimed : timed run.times q ≡ false
 
 -- an arrival is put in once, with the operation of the phase's barrier
-pub record MayArrive (g : GraphValue) (run : Run) (o : Op) (i p v : ℕ) : Type 0 where
+pub record MayArriveWith (does : Effects) (g : GraphValue) (run : Run) (o : Op) (i p v : ℕ) : Type 0 where
   pub is_out : IsTrue (out run.stages i)
   pub arrives : value_for g p i ≡ Some v
-  pub not_cancelled : eval_end g i ≢ Cancelled
+  pub not_cancelled : end_with does zero_cells g i ≢ Cancelled
   pub not_arrived : is_listed run.arrived i ≡ false
   pub by_barrier : (b : ℕ) (x : BarrierInfo) → verb_at g p ≡ Some (Phase b) → slice_get (barriers g) b ≡ Some x → x.op ≡ o
 
 -- a line draws one time; an acquire holds its reservation before
-pub record MayDraw (g : GraphValue) (run : Run) (i : ℕ) : Type 0 where
+pub record MayDrawWith (does : Effects) (g : GraphValue) (run : Run) (i : ℕ) : Type 0 where
   pub is_out : IsTrue (out run.stages i)
   pub untimed : time_at run.times i ≡ None
-  pub holds : (l : ℕ) → Acquires g i l → eval_end g i ≢ Cancelled → IsTrue (is_listed (list_at run.holders l) i)
+  pub holds : (l : ℕ) → Acquires g i l → end_with does zero_cells g i ≢ Cancelled → IsTrue (is_listed (list_at run.holders l) i)
 
 -- a line that is ending has a time and the end of the evaluation; unless it is cancelled it was put back on its columns, and put in if it is an arrival
-pub record MayEnd (g : GraphValue) (run : Run) (i : ℕ) (x : End) : Type 0 where
+pub record MayEndWith (does : Effects) (g : GraphValue) (run : Run) (i : ℕ) (x : End) : Type 0 where
   pub is_out : stage_at run.stages i ≡ Out
-  pub is_end : eval_end g i ≡ x
+  pub is_end : end_with does zero_cells g i ≡ x
   pub has_time : IsTrue (timed run.times i)
-  pub put_back : (c : ℕ) → AccessesColumn g i c → eval_end g i ≢ Cancelled → IsTrue (is_listed (list_at run.back c) i)
-  pub put_in : IsTrue (line_passes is_arrive g i) → eval_end g i ≢ Cancelled → IsTrue (is_listed run.arrived i)
+  pub put_back : (c : ℕ) → AccessesColumn g i c → end_with does zero_cells g i ≢ Cancelled → IsTrue (is_listed (list_at run.back c) i)
+  pub put_in : IsTrue (line_passes is_arrive g i) → end_with does zero_cells g i ≢ Cancelled → IsTrue (is_listed run.arrived i)
 
 -- a release that is ending or ended frees the reservation of its acquire, which is ended and done
-pub record MayFree (g : GraphValue) (run : Run) (r l q : ℕ) : Type 0 where
+pub record MayFreeWith (does : Effects) (g : GraphValue) (run : Run) (r l q : ℕ) : Type 0 where
   pub is_over : IsTrue (over run.stages r)
   pub releases : Releases g r q
   pub acquires : Acquires g q l
   pub acquire_ended : IsTrue (ended run.stages q)
-  pub acquire_done : eval_end g q ≡ Done
+  pub acquire_done : end_with does zero_cells g q ≡ Done
 
 -- a line that is ended is ending before, and has freed if it is a release of an acquire that is done
-pub record MayClose (g : GraphValue) (run : Run) (i : ℕ) (x : End) : Type 0 where
+pub record MayCloseWith (does : Effects) (g : GraphValue) (run : Run) (i : ℕ) (x : End) : Type 0 where
   pub is_ending : stage_at run.stages i ≡ Ending x
-  pub frees : (q : ℕ) → Releases g i q → eval_end g q ≡ Done → IsTrue (is_listed run.freed i)
+  pub frees : (q : ℕ) → Releases g i q → end_with does zero_cells g q ≡ Done → IsTrue (is_listed run.freed i)

@@ -174,9 +174,9 @@ fn second_waits_for(alloc: Global, text: &str, second: u32) -> Result<Option<Thi
     }
     let mut core = Core::prepare(alloc, &checked, 8192)?;
     issue_all(&mut core);
-    if !matches!(core.attempt(0), Attempt::Taken(_)) {
+    let Attempt::Taken(_) = core.attempt(0) else {
         return Err("first".into());
-    }
+    };
     match core.attempt(second) {
         Attempt::Busy(thing) => Ok(Some(thing)),
         _ => Ok(None),

@@ -22,6 +22,7 @@ returns c =
     let is = c.of_parts.ensures.state p.run p.handled p.shown in
     record {
       graph = is.graph ∙ p.graph;
+      unhosted = is.unhosted;
       slots = ap (λ (t : EventMap). length t.slots) is.tabled ∙ p.slots;
       nothing_out = λ i. ap (λ s. out s i) is.stages ∙ p.nothing_out i;
       issued = λ i. ((λ knows. ap (λ s. issued s i) is.stages ∙ (p.issued i).0 knows), (λ h. (p.issued i).1 (ap (λ s. issued s i) (sym is.stages) ∙ h)));

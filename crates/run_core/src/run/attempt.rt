@@ -10,7 +10,7 @@ use crate::holders::busy_lock;
 use crate::run::Core;
 use crate::sources::{is_cancelled, least_left};
 use run_parts::{Progress, Stage, Thing};
-use run_state::laws::{cancelled_by_kept_ends, claim_keeps_sound, out_conflict_only_exempt};
+use run_state::laws::{claim_keeps_sound, out_conflict_only_exempt};
 
 /// What is found of a line that is to be taken.
 #[derive(Clone, Copy)]
@@ -66,7 +66,6 @@ impl<'g> Core<'g> {
         requires { i < length self.now.graph.lines }
         ensures { IsFound self.now i result }
     {
-        cancelled_by_kept_ends();
         let graph = self.checked.graph();
         let _ = graph.lines();
         let progress = self.stages[i as usize];

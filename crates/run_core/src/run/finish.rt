@@ -9,14 +9,13 @@ use run_parts::Issue;
 impl<'g> Core<'g> {
     ghost use Rattle.std.specs.Prelude.{◌≡◌, ℕ, ◌<◌, ◌≤◌, true, false, length};
     ghost use Rattle.run_state.specs.Run.{out};
-    ghost use Rattle.run_state.specs.Quiet.{Quiet, CanTake};
-    ghost use Rattle.run_core.specs.Finishing.{NothingOut, GoesOn, left_to_do, IsStill};
+    ghost use Rattle.run_core.specs.Finishing.{NothingOut, GoesOn, left_to_do, IsStill, CanBeTaken, IsQuiet};
 
     /// Issues, takes and puts back lines until nothing moves. No work may be out. Then each line is
     /// issued, and none can be taken.
     pub fn finish(&mut self)
         requires nothing_out { NothingOut self.old }
-        ensures quiet { Quiet self.new.graph self.new.run }
+        ensures quiet { IsQuiet self.new.graph self.new.run }
         ensures goes_on { GoesOn self.old self.new }
     {
         while self.advance() {}
@@ -28,7 +27,7 @@ impl<'g> Core<'g> {
         requires nothing_out { NothingOut self.old }
         ensures goes_on { GoesOn self.old self.new }
         ensures moved { result ≡ true → left_to_do self.new < left_to_do self.old }
-        ensures unmoved { result ≡ false → Quiet self.new.graph self.new.run }
+        ensures unmoved { result ≡ false → IsQuiet self.new.graph self.new.run }
     {
         self.is_sound();
         self.slots_suffice();
@@ -74,7 +73,7 @@ impl<'g> Core<'g> {
         requires nothing_out { NothingOut self.old }
         ensures goes_on { GoesOn self.old self.new }
         ensures moved { result ≡ true → left_to_do self.new < left_to_do self.old }
-        ensures unmoved { result ≡ false → IsStill self.old self.new × ((i : ℕ) → CanTake self.new.graph self.new.run i → ⊥) }
+        ensures unmoved { result ≡ false → IsStill self.old self.new × ((i : ℕ) → CanBeTaken self.new.graph self.new.run i → ⊥) }
     {
         let mut moved = false;
         for line in 0..self.graph().lines() {
@@ -93,7 +92,7 @@ impl<'g> Core<'g> {
         requires nothing_out { NothingOut self.old }
         ensures goes_on { GoesOn self.old self.new }
         ensures moved { result ≡ true → left_to_do self.new < left_to_do self.old }
-        ensures unmoved { result ≡ false → IsStill self.old self.new × (CanTake self.old.graph self.old.run line → ⊥) }
+        ensures unmoved { result ≡ false → IsStill self.old self.new × (CanBeTaken self.old.graph self.old.run line → ⊥) }
     {
         let Attempt::Taken(work) = self.attempt(line) else {
             return false;

@@ -10,7 +10,7 @@ impl<'g> Core<'g> {
     ghost use Rattle.run_core.specs.Works.{KeepsWork};
     ghost use Rattle.run_core.specs.WhatIsOut.{SameOut};
     ghost use Rattle.run_core.specs.Finishing.{NothingOut};
-    ghost use Rattle.run_state.specs.Quiet.{CanTake};
+    ghost use Rattle.run_core.specs.Finishing.{CanBeTaken};
     ghost use Rattle.event_table.specs.EventMap.{IsFull};
     ghost use Rattle.std.specs.Prelude.{◌≡◌, ℕ};
 
@@ -39,7 +39,7 @@ impl<'g> Core<'g> {
     /// Where nothing is out, no issued line can be taken and a line is left to issue, a slot is free.
     pub fn has_free_slot(&self)
         requires nothing_out { NothingOut self.now }
-        requires none_taken { (i : ℕ) → CanTake self.now.graph self.now.run i → ⊥ }
+        requires none_taken { (i : ℕ) → CanBeTaken self.now.graph self.now.run i → ⊥ }
         requires left { IsLeft self.now }
         ensures { IsFull self.now.table → ⊥ }
     {
@@ -48,7 +48,7 @@ impl<'g> Core<'g> {
 
     /// The same, before it is known whether a line can be taken or is left.
     pub(crate) fn slots_suffice(&self)
-        ensures { NothingOut self.now → ((i : ℕ) → CanTake self.now.graph self.now.run i → ⊥) → IsLeft self.now → IsFull self.now.table
+        ensures { NothingOut self.now → ((i : ℕ) → CanBeTaken self.now.graph self.now.run i → ⊥) → IsLeft self.now → IsFull self.now.table
             → ⊥ }
     {
         left_below_need();

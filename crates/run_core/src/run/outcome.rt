@@ -6,7 +6,6 @@ ghost use Rattle.basics.specs.Lists.{numbers_below};
 ghost use Rattle.event_table.specs.EventMap.{answer};
 ghost use Rattle.event_table.specs.declared.handle.Handle.{Handle as TheHandle};
 ghost use Rattle.run_state.specs.Run.{end_so_far, stage_at};
-ghost use Rattle.run_state.specs.Quiet.{Quiet};
 ghost use Rattle.graph_terms.specs.Graph.{verb_at};
 ghost use Rattle.run_core.specs.Kept.{shown_stage};
 ghost use Rattle.run_core.specs.Answers.{answer_shown, phase_for, phase_of_line, AsksHandles};
@@ -25,23 +24,32 @@ use run_parts::Progress;
 use run_state::laws::{clock_is_small, quiet_gives_outcome, slots_are_by_times};
 
 impl<'g> Core<'g> {
-    ghost use Rattle.std.specs.Prelude.{◌≡◌, ℕ, ◌<◌, length, Some, slice_get};
+    ghost use Rattle.std.specs.Prelude.{◌≡◌, ℕ, ◌<◌, Bool, false, length, Some, slice_get};
     ghost use Rattle.event_table.specs.EventMap.{answer};
     ghost use Rattle.event_table.specs.declared.handle.Handle.{Handle as TheHandle};
-    ghost use Rattle.graph_meaning.specs.Evaluation.{outcome};
+    ghost use Rattle.graph_meaning.specs.Effect.{zero_cells};
+    ghost use Rattle.graph_meaning.specs.Evaluation.{outcome, outcome_with};
     ghost use Rattle.graph_meaning.specs.Trace.{IsLawful, SectionsApart};
-    ghost use Rattle.run_state.specs.Quiet.{Quiet, ByTimes};
+    ghost use Rattle.run_state.specs.Quiet.{ByTimes, IsLawfulWith};
+    ghost use Rattle.run_state.specs.Verdicts.{effect_by};
+    ghost use Rattle.run_core.specs.Core.{MayFault};
+    ghost use Rattle.run_core.specs.Finishing.{IsQuiet};
     ghost use Rattle.run_core.specs.Answers.{AsksHandles};
 
-    /// What a quiet run gives: the outcome of the evaluation, with the ended lines in the order in
-    /// which they ended as the trace. Each answer is asked of the line's handle. Between an acquire that
+    /// What a quiet run gives: the outcome of the evaluation in which the calls fault that the host
+    /// said did, and no others that ended, with the ended lines in the order in which they ended as the
+    /// trace. Each answer is asked of the line's handle. Between an acquire that
     /// is done and its release no other acquire of that reservation that is done stands in the trace,
     /// unless both are shared.
     pub fn outcome(self) -> Outcome
-        requires quiet { Quiet self.graph self.run }
-        ensures outcome { result ≡ outcome self.entry.graph result.trace }
-        ensures lawful { IsLawful self.entry.graph result.trace }
-        ensures sections { SectionsApart self.entry.graph result.trace }
+        requires quiet { IsQuiet self.graph self.run }
+        ensures evaluated { (faults : ℕ → Bool) → MayFault self.entry faults
+            → result ≡ outcome_with (effect_by faults self.entry.graph) zero_cells self.entry.graph result.trace }
+        ensures in_order { (faults : ℕ → Bool) → MayFault self.entry faults
+            → IsLawfulWith (effect_by faults self.entry.graph) self.entry.graph result.trace }
+        ensures outcome { self.entry.hosted ≡ false → result ≡ outcome self.entry.graph result.trace }
+        ensures lawful { self.entry.hosted ≡ false → IsLawful self.entry.graph result.trace }
+        ensures sections { self.entry.hosted ≡ false → SectionsApart self.entry.graph result.trace }
         ensures times { ByTimes self.entry.run result.trace }
         ensures asked { AsksHandles self.entry.handles self.entry.table result.answers }
         ensures lines { (k i : ℕ) → slice_get result.trace k ≡ Some i → i < length self.entry.graph.lines }

@@ -20,6 +20,7 @@ pub struct Resting {
     holders: Holders,
     trace: Vec<u32>,
     room: OutcomeRoom,
+    hosted: bool,
 }
 
 impl<'g> Core<'g> {
@@ -39,6 +40,7 @@ impl<'g> Core<'g> {
             holders,
             trace,
             room,
+            hosted,
             ..
         } = self;
         Resting {
@@ -49,6 +51,7 @@ impl<'g> Core<'g> {
             holders,
             trace,
             room,
+            hosted,
         }
     }
 }
@@ -67,6 +70,7 @@ impl Resting {
             holders,
             trace,
             room,
+            hosted,
         } = self;
         Core {
             checked,
@@ -77,6 +81,7 @@ impl Resting {
             holders,
             trace,
             room,
+            hosted,
         }
     }
 }

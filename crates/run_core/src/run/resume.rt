@@ -222,7 +222,7 @@ impl<'g> Core<'g> {
     ghost use Rattle.run_core.specs.Resumed.{ShowState, InState};
 
     /// The core in the state that is shown, in which no work is out, with as many slots as the table
-    /// has. It takes no memory: its lists are filled within their room.
+    /// has and without a host. It takes no memory: its lists are filled within their room.
     pub fn of_parts(parts: RunParts<'g>) -> Core<'g>
         requires room { HasRoom parts.checked.now.graph parts.room }
         requires enough { parts.checked.now.need ≤ length parts.table.slots }
@@ -273,10 +273,11 @@ impl<'g> Core<'g> {
             holders: holders_of(graph, items, nobody),
             trace: trace_of(items, trace),
             room: outcome,
+            hosted: false,
         }
     }
 
-    /// The core in the state that is shown, in which no work is out. Nothing was issued in this
+    /// The core in the state that is shown, in which no work is out, without a host. Nothing was issued in this
     /// core, whose lists it takes over. It takes no memory.
     pub fn resume(
         self,
@@ -299,6 +300,7 @@ impl<'g> Core<'g> {
             holders,
             trace,
             room,
+            ..
         } = self;
         let _ = checked.need();
         let (handles, busy) = events.into_room();

@@ -9,9 +9,8 @@ use run_parts::Progress;
 use run_state::laws::{claim_of_cancelled_keeps_rest, stage_leaves, take_keeps_rest, take_leaves};
 
 impl<'g> Core<'g> {
-    ghost use Rattle.std.specs.Prelude.{◌≡◌, ◌≢◌, ℕ, ◌<◌, length};
-    ghost use Rattle.graph_terms.specs.declared.outcome.End.TheVariants.{Cancelled};
-    ghost use Rattle.graph_meaning.specs.Evaluation.{eval_end};
+    ghost use Rattle.std.specs.Prelude.{◌≡◌, ℕ, ◌<◌, true, false, length};
+    ghost use Rattle.run_state.specs.Quiet.{kept_cancels};
     ghost use Rattle.run_core.specs.Steps.{Takes, StandsBy, IsDue, IsLeastLeft, HasLock, HasColumns};
     ghost use Rattle.run_core.specs.Works.{KeepsWork};
 
@@ -28,7 +27,7 @@ impl<'g> Core<'g> {
     /// Takes a line that is cancelled, which needs nothing.
     pub(crate) fn claim(&mut self, i: u32) -> Work
         requires due { IsDue self.old.graph self.old.run i }
-        requires cancelled { eval_end self.old.graph i ≡ Cancelled }
+        requires cancelled { kept_cancels self.old.graph self.old.run.stages i ≡ true }
         ensures line { result.line ≡ i }
         ensures taken { Takes self.old self.new result }
         ensures works { (k : ℕ) → KeepsWork self.old self.new k }
@@ -42,7 +41,7 @@ impl<'g> Core<'g> {
     /// Takes a line with its columns and its reservation.
     pub(crate) fn take(&mut self, i: u32) -> Work
         requires due { IsDue self.old.graph self.old.run i }
-        requires runs { eval_end self.old.graph i ≢ Cancelled }
+        requires runs { kept_cancels self.old.graph self.old.run.stages i ≡ false }
         requires lock { HasLock self.old.graph self.old.run.holders i }
         requires columns { HasColumns self.old.graph self.old.run.places i }
         ensures line { result.line ≡ i }

@@ -1,5 +1,5 @@
 use Rattle.std.proofs.Common.{Err, ap}
-use Rattle.explain_top.proofs.Endings.{by_verdict, too_long, broken_off, usage_never, read_fault_never, complete, all_answered, long_answered}
+use Rattle.explain_top.proofs.Endings.{by_verdict, too_long, broken_off, usage_never, read_fault_never, complete, complete_flow, all_answered, long_answered}
 use Rattle.explain_top.proofs.program.run.Goals as goal
 
 pub returns-in-Ok-clause-answered : goal.returns-in-Ok-clause-answered
@@ -22,6 +22,11 @@ returns-in-Ok-clause-complete g c = λ bytes graph left short is acc read_rose w
     complete c.args.ends c.args.all bytes (g.K.Sink.state c.args.sink.now) (g.K.Sink.state c.answer.new.sink) c.answer.result
     (all_answered c.args.ends c.args.all _ _ c.in-Ok.bytes.items c.as_slice.result.now (g.K.Sink.state c.args.sink.now) (g.K.Sink.state c.answer.new.sink) c.answer.result c.in-Ok.ensures.all c.in-Ok.ensures.end c.as_slice.ensures.value c.answer.ensures.answered bytes left) (c.bytes_have_one_reading.ensures bytes) short graph is acc write_rose
 
+pub returns-in-Ok-clause-complete_flow : goal.returns-in-Ok-clause-complete_flow
+returns-in-Ok-clause-complete_flow g c = λ bytes flow left short is fits read_rose write_rose.
+    complete_flow c.args.ends c.args.all bytes (g.K.Sink.state c.args.sink.now) (g.K.Sink.state c.answer.new.sink) c.answer.result
+    (all_answered c.args.ends c.args.all _ _ c.in-Ok.bytes.items c.as_slice.result.now (g.K.Sink.state c.args.sink.now) (g.K.Sink.state c.answer.new.sink) c.answer.result c.in-Ok.ensures.all c.in-Ok.ensures.end c.as_slice.ensures.value c.answer.ensures.answered bytes left) c.bytes_have_one_reading.ensures short flow is fits write_rose
+
 pub returns-in-Err-TooLong-clause-answered : goal.returns-in-Err-TooLong-clause-answered
 returns-in-Err-TooLong-clause-answered g c = λ bytes verdict left is.
     by_verdict c.args.ends c.args.all bytes (g.K.Sink.state c.args.sink.now) (g.K.Sink.state c.put_too_long.new.sink) c.put_too_long.result
@@ -41,6 +46,11 @@ pub returns-in-Err-TooLong-clause-complete : goal.returns-in-Err-TooLong-clause-
 returns-in-Err-TooLong-clause-complete g c = λ bytes graph left short is acc read_rose write_rose.
     complete c.args.ends c.args.all bytes (g.K.Sink.state c.args.sink.now) (g.K.Sink.state c.put_too_long.new.sink) c.put_too_long.result
     (long_answered c.args.ends c.args.all _ (g.K.Sink.state c.args.sink.now) (g.K.Sink.state c.put_too_long.new.sink) c.put_too_long.result (λ xs old. c.in-Err-TooLong.ensures.was_long xs old (ap (λ e. Err e) c.in-Err-TooLong.field-0-is)) c.put_too_long.ensures bytes left) (c.bytes_have_one_reading.ensures bytes) short graph is acc write_rose
+
+pub returns-in-Err-TooLong-clause-complete_flow : goal.returns-in-Err-TooLong-clause-complete_flow
+returns-in-Err-TooLong-clause-complete_flow g c = λ bytes flow left short is fits read_rose write_rose.
+    complete_flow c.args.ends c.args.all bytes (g.K.Sink.state c.args.sink.now) (g.K.Sink.state c.put_too_long.new.sink) c.put_too_long.result
+    (long_answered c.args.ends c.args.all _ (g.K.Sink.state c.args.sink.now) (g.K.Sink.state c.put_too_long.new.sink) c.put_too_long.result (λ xs old. c.in-Err-TooLong.ensures.was_long xs old (ap (λ e. Err e) c.in-Err-TooLong.field-0-is)) c.put_too_long.ensures bytes left) c.bytes_have_one_reading.ensures short flow is fits write_rose
 
 pub returns-in-Ok-clause-read_fault : goal.returns-in-Ok-clause-read_fault
 returns-in-Ok-clause-read_fault g c = λ is. absurd (read_fault_never c.args.ends c.args.all c.as_slice.result.now (g.K.Sink.state c.args.sink.now) (g.K.Sink.state c.answer.new.sink) c.answer.result c.answer.ensures.answered is)

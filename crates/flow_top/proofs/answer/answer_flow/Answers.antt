@@ -1,20 +1,14 @@
-use Rattle.std.proofs.Common.{◌≡◌, ℕ, ◌+◌, ◌^◌, ◌<◌, ◌≤◌, Bool, List, ◌++◌, length, length-append, ap, sym, ◌∙◌, subst, inl, inr, arith}
-use Rattle.std.specs.Prelude.{codes}
+use Rattle.std.proofs.Common.{◌+◌, ◌^◌, ◌<◌, Bool, List, ℕ, length, sym, subst, inl, inr}
 use Rattle.std.proofs.lemmas.Result.{IfOk-weaker, IfErr-weaker}
-use Rattle.graph_terms.specs.declared.format.Format.TheVariants.{One}
 use Rattle.graph_terms.specs.declared.format.Format.{Format}
-use Rattle.graph_terms.specs.Limits.{limits}
 use Rattle.graph_terms.specs.Graph.{GraphValue, written_in}
-use Rattle.graph_terms.specs.Spelling.{head, header}
 use Rattle.graph_terms.specs.Fits.{IsGraph}
-use Rattle.graph_terms.proofs.Public.{long_head, most_limits}
-use Rattle.graph_words.specs.Text.{text}
 use Rattle.flow_top.specs.FlowText.{FlowText, IsReadFault}
 use Rattle.flow_top.specs.Answer.{AnswersFlow, IsAnswerFault, IsFaultOfFlow}
 use Rattle.flow_top.specs.declared.FlowFault.{FlowFault}
 use Rattle.flow_top.specs.declared.FlowFault.TheVariants as fault
 use Rattle.flow_order.specs.Flow.{IsFlow}
-use Rattle.flow_top.proofs.FlowLines.{bare_is, one_of, flow_in}
+use Rattle.flow_top.proofs.FlowLines.{one_of, flow_in, few_items}
 use Rattle.flow_top.proofs.answer.answer_flow.Goals as goal
 
 of_text : (bytes : List ℕ) (commute : Bool) (format : Format) (e : FlowFault) → IsReadFault bytes e → IsAnswerFault bytes commute format e
@@ -25,16 +19,6 @@ of_flow : (bytes : List ℕ) (f : GraphValue) (commute : Bool) (format : Format)
 of_flow bytes f commute format (fault.Line n w) t (inl h) = inr (inl (record { flow = f; is_text = t; line = h.line; over = h.over; number_is = h.number_is; reason_is = h.reason_is }))
 of_flow bytes f commute format (fault.Line n w) t (inr h) = inr (inr (record { flow = f; is_text = t; within = h.within; too_long = h.too_long; number_is = h.number_is; reason_is = h.reason_is }))
 of_flow bytes f commute format fault.NoMemory t h = tt
-
--- so few declarations and lines that the number of each fits
-few_items : (bytes : List ℕ) (f : GraphValue) → FlowText bytes f → length f.decls + length f.lines + 2 < 2 ^ 32
-few_items bytes f t =
-    let ends : length (text f) ≡ length (head f) + 4 = length-append (head f) (codes "end\n") in
-    let whole : length (header One ++ t.rest) ≡ length (text f) = ap length (sym (bare_is t.rest) ∙ t.is_text.is_text) in
-    let short : length (header One ++ t.rest) ≤ (limits f.format).text = subst (λ xs. length xs ≤ (limits f.format).text) (bare_is t.rest) t.is_text.short in
-    let most : (limits f.format).text ≤ 16777216 = (most_limits f.format).text in
-    let long : 1 + length f.decls + length f.lines ≤ length (head f) = long_head f in
-    omega arith
 
 pub in_format-later-requires : goal.in_format-later-requires
 in_format-later-requires c = let t = c.in-Ok.ensures.text in one_of t.rest c.in-Ok.flow t.is_text

@@ -1,25 +1,16 @@
-use Rattle.std.proofs.Common.{List, ℕ, ◌+◌, ◌∙◌, subst, ap, refl, inr}
-use Rattle.graph_words.specs.Text.{GraphText}
-use Rattle.flow_top.proofs.FlowLines.{flow_text}
-use Rattle.flow_top.proofs.WordForms.{read_fault}
+use Rattle.std.proofs.Common.{sym, subst}
+use Rattle.flow_top.specs.FlowText.{IsFlowReading, IsReadFault}
+use Rattle.flow_top.proofs.WordForms.{header_fault, other_fault, refused_fault}
 use Rattle.flow_top.proofs.reading.read_flow.Goals as goal
 
-pub returns-in-None-clause-text : goal.returns-in-None-clause-text
-returns-in-None-clause-text c = flow_text c.args.bytes.now c.in-Some.rest.now c.in-Ok.graph c.in-Some.ensures (subst (λ (xs : List ℕ). GraphText xs c.in-Ok.graph) (c.as_slice.ensures.value ∙ c.in_ok-text.ensures) c.in-Ok.ensures.text) c.in-None.ensures
+pub returns-in-Ok-Flow-clause-text : goal.returns-in-Ok-Flow-clause-text
+returns-in-Ok-Flow-clause-text c = subst (IsFlowReading c.args.bytes.now) c.in-Ok-Flow.field-0-is c.in-Ok-Flow.ensures
 
-pub returns-in-Ok-clause-refusal : goal.returns-in-Ok-clause-refusal
-returns-in-Ok-clause-refusal c = inr (record {
-  rest = c.in-Some.rest.now;
-  begins = c.in-Some.ensures;
-  refused = inr (record {
-    graph = c.in-Ok.graph;
-    is_text = subst (λ (xs : List ℕ). GraphText xs c.in-Ok.graph) (c.as_slice.ensures.value ∙ c.in_ok-text.ensures) c.in-Ok.ensures.text;
-    line = c.in-Some-first_other.line;
-    other = c.in-Some-first_other.ensures;
-    number_is = ap (λ n. n + c.in-Some-first_other.line + 2) c.decls.ensures.number;
-    reason_is = refl;
-  });
-})
+pub returns-in-Ok-Header-clause-refusal : goal.returns-in-Ok-Header-clause-refusal
+returns-in-Ok-Header-clause-refusal c = subst (IsReadFault c.args.bytes.now) (sym c.refused.ensures) (header_fault c.args.bytes.now (subst (IsFlowReading c.args.bytes.now) c.in-Ok-Header.field-0-is c.in-Ok-Header.ensures))
 
-pub returns-in-Err-Line-clause-refusal : goal.returns-in-Err-Line-clause-refusal
-returns-in-Err-Line-clause-refusal c = read_fault c.args.bytes.now c.in-Some.rest.now _ c.fault_of_text.result c.in-Some.ensures (c.as_slice-in-Err-Line.ensures.value ∙ c.in_ok-text.ensures) c.fault_of_text.ensures
+pub returns-in-Ok-Other-clause-refusal : goal.returns-in-Ok-Other-clause-refusal
+returns-in-Ok-Other-clause-refusal c = subst (IsReadFault c.args.bytes.now) (sym c.refused-in-Ok-Other.ensures) (other_fault c.args.bytes.now c.in-Ok-Other.number (subst (IsFlowReading c.args.bytes.now) c.in-Ok-Other.field-0-is c.in-Ok-Other.ensures))
+
+pub returns-in-Ok-Refused-clause-refusal : goal.returns-in-Ok-Refused-clause-refusal
+returns-in-Ok-Refused-clause-refusal c = subst (IsReadFault c.args.bytes.now) (sym c.refused-in-Ok-Refused.ensures) (refused_fault c.args.bytes.now c.in-Ok-Refused.field-0-0 (subst (IsFlowReading c.args.bytes.now) c.in-Ok-Refused.field-0-is c.in-Ok-Refused.ensures))

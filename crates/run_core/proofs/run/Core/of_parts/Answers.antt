@@ -1,4 +1,4 @@
-use Rattle.std.proofs.Common.{◌≡◌, ℕ, true, length, sym, ◌∙◌, ap, subst, arith}
+use Rattle.std.proofs.Common.{◌≡◌, ℕ, true, length, sym, ◌∙◌, ap, subst, arith, false}
 use Rattle.std.proofs.lemmas.List.{length-replicate}
 use Rattle.graph_terms.specs.Graph.{columns}
 use Rattle.graph_terms.specs.Fits.{IsGraph}
@@ -23,7 +23,7 @@ pub holders_of-requires-clause-beside : goal.holders_of-requires-clause-beside
 holders_of-requires-clause-beside c =
     let a = c.args.parts.checked.now.graph in
     let n = length c.args.parts.table.slots in
-    let core : IsCore (unissued a n) = core_unissued c.start_is_sound.ensures c.start_is_at_rest.ensures a n (subst IsGraph c.graph-graph.ensures.graph c.lines-lines.ensures.is_graph) c.graph-graph.ensures.accepted
+    let core : IsCore (unissued a n) = core_unissued c.start_is_sound.ensures c.start_is_at_rest.ensures false a n (subst IsGraph c.graph-graph.ensures.graph c.lines-lines.ensures.is_graph) c.graph-graph.ensures.accepted
     (λ k is. (let same : k ≡ c.need.result = c.needs_are_one.ensures a k c.need.result is c.need.ensures.need in let value = c.need.ensures.value in let enough = c.requires.enough in omega (arith, same, value, enough))) (length-replicate n unused) in
     let lines = c.as_slice-items.result.now in
     let values = c.as_slice.result.now in
@@ -37,7 +37,7 @@ pub trace_of-requires-clause-times : goal.trace_of-requires-clause-times
 trace_of-requires-clause-times c =
     let a = c.args.parts.checked.now.graph in
     let n = length c.args.parts.table.slots in
-    let core : IsCore (unissued a n) = core_unissued c.start_is_sound.ensures c.start_is_at_rest.ensures a n (subst IsGraph c.graph-graph.ensures.graph c.lines-lines.ensures.is_graph) c.graph-graph.ensures.accepted
+    let core : IsCore (unissued a n) = core_unissued c.start_is_sound.ensures c.start_is_at_rest.ensures false a n (subst IsGraph c.graph-graph.ensures.graph c.lines-lines.ensures.is_graph) c.graph-graph.ensures.accepted
     (λ k is. (let same : k ≡ c.need.result = c.needs_are_one.ensures a k c.need.result is c.need.ensures.need in let value = c.need.ensures.value in let enough = c.requires.enough in omega (arith, same, value, enough))) (length-replicate n unused) in
     let lines = c.as_slice-items.result.now in
     let values = c.as_slice.result.now in
@@ -51,7 +51,7 @@ pub trace_of-requires-clause-once : goal.trace_of-requires-clause-once
 trace_of-requires-clause-once c =
     let a = c.args.parts.checked.now.graph in
     let n = length c.args.parts.table.slots in
-    let core : IsCore (unissued a n) = core_unissued c.start_is_sound.ensures c.start_is_at_rest.ensures a n (subst IsGraph c.graph-graph.ensures.graph c.lines-lines.ensures.is_graph) c.graph-graph.ensures.accepted
+    let core : IsCore (unissued a n) = core_unissued c.start_is_sound.ensures c.start_is_at_rest.ensures false a n (subst IsGraph c.graph-graph.ensures.graph c.lines-lines.ensures.is_graph) c.graph-graph.ensures.accepted
     (λ k is. (let same : k ≡ c.need.result = c.needs_are_one.ensures a k c.need.result is c.need.ensures.need in let value = c.need.ensures.value in let enough = c.requires.enough in omega (arith, same, value, enough))) (length-replicate n unused) in
     let lines = c.as_slice-items.result.now in
     let values = c.as_slice.result.now in
@@ -65,7 +65,7 @@ pub invariant_of-result : goal.invariant_of-result
 invariant_of-result c =
     let a = c.args.parts.checked.now.graph in
     let n = length c.args.parts.table.slots in
-    let core : IsCore (unissued a n) = core_unissued c.start_is_sound.ensures c.start_is_at_rest.ensures a n (subst IsGraph c.graph-graph.ensures.graph c.lines-lines.ensures.is_graph) c.graph-graph.ensures.accepted
+    let core : IsCore (unissued a n) = core_unissued c.start_is_sound.ensures c.start_is_at_rest.ensures false a n (subst IsGraph c.graph-graph.ensures.graph c.lines-lines.ensures.is_graph) c.graph-graph.ensures.accepted
     (λ k is. (let same : k ≡ c.need.result = c.needs_are_one.ensures a k c.need.result is c.need.ensures.need in let value = c.need.ensures.value in let enough = c.requires.enough in omega (arith, same, value, enough))) (length-replicate n unused) in
     let lines = c.as_slice-items.result.now in
     let values = c.as_slice.result.now in
@@ -94,7 +94,7 @@ pub returns : goal.returns
 returns c =
     let a = c.args.parts.checked.now.graph in
     let n = length c.args.parts.table.slots in
-    let core : IsCore (unissued a n) = core_unissued c.start_is_sound.ensures c.start_is_at_rest.ensures a n (subst IsGraph c.graph-graph.ensures.graph c.lines-lines.ensures.is_graph) c.graph-graph.ensures.accepted
+    let core : IsCore (unissued a n) = core_unissued c.start_is_sound.ensures c.start_is_at_rest.ensures false a n (subst IsGraph c.graph-graph.ensures.graph c.lines-lines.ensures.is_graph) c.graph-graph.ensures.accepted
     (λ k is. (let same : k ≡ c.need.result = c.needs_are_one.ensures a k c.need.result is c.need.ensures.need in let value = c.need.ensures.value in let enough = c.requires.enough in omega (arith, same, value, enough))) (length-replicate n unused) in
     let lines = c.as_slice-items.result.now in
     let values = c.as_slice.result.now in

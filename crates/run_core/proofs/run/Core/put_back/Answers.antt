@@ -53,28 +53,28 @@ end-requires-clause-pending c =
     handle_pending _ c.self.invariant.core c.into_parts-line.result.0 is.is_out
 
 -- the core after is the one in which the line has ended
-ended : (c : goal.After-end) → shown_core c.self.inside.checked.now.graph (slice_set c.self.inside.stages.items c.into_parts-line.result.0 (Ended c.into_parts-line.result.1)) c.end.new.self c.settle.new.columns.homes c.settle.new.columns.takers.items c.settle.new.values.items c.free.new.holders.holding.items
+ended : (c : goal.After-end) → shown_core c.self.inside.hosted c.self.inside.checked.now.graph (slice_set c.self.inside.stages.items c.into_parts-line.result.0 (Ended c.into_parts-line.result.1)) c.end.new.self c.settle.new.columns.homes c.settle.new.columns.takers.items c.settle.new.values.items c.free.new.holders.holding.items
     c.push_within.new.items.items
-    ≡ with_end (shown_core c.self.inside.checked.now.graph c.self.inside.stages.items c.self.inside.events c.self.inside.columns.homes c.self.inside.columns.takers.items c.self.inside.values.items c.self.inside.holders.holding.items c.self.inside.trace.items) (finished_of c.into_parts-line.result)
+    ≡ with_end (shown_core c.self.inside.hosted c.self.inside.checked.now.graph c.self.inside.stages.items c.self.inside.events c.self.inside.columns.homes c.self.inside.columns.takers.items c.self.inside.values.items c.self.inside.holders.holding.items c.self.inside.trace.items) (finished_of c.into_parts-line.result)
 ended c =
     let s = c.self.inside in
     let r = c.into_parts-line.result in
     let is = finished_is _ c.args.self.now c.args.finished r c.self.view_is c.into_parts-line.ensures c.requires in
-    let h = handle_at (shown_core s.checked.now.graph s.stages.items s.events s.columns.homes s.columns.takers.items s.values.items s.holders.holding.items s.trace.items) r.0 in
+    let h = handle_at (shown_core s.hosted s.checked.now.graph s.stages.items s.events s.columns.homes s.columns.takers.items s.values.items s.holders.holding.items s.trace.items) r.0 in
     let e = c.graph-graph.ensures.graph in
     let events : c.end.new.self ≡ ended_events s.events h (fate_for r.1) = c.end.ensures.map ∙ ap (ended_events s.events h) c.fate_for.ensures in
     let places = c.settle.ensures.places ∙ ap (λ g. all_home (places_of s.columns.homes s.columns.takers.items) (cells_in r.2) (columns_for g r.0 r.1)) e in
     let arrives = c.settle.ensures.values ∙ ap (λ g. values_with s.values.items (arrival_for g r.0 r.1)) e in
     let frees = sym (ap (λ g. holders_by g c.free.new.holders.holding.items) e) ∙ (c.free.ensures.shown ∙ (ap (λ ss. holders_without (holders_by c.graph-graph.result.now s.holders.holding.items) (frees_in c.graph-graph.result.now (map shown_stage ss) r.0)) c.as_slice.ensures.value ∙ ap (λ g. holders_without (holders_by g s.holders.holding.items) (frees_in g (map shown_stage s.stages.items) r.0)) e)) in
-    ap (shown_core s.checked.now.graph (slice_set s.stages.items r.0 (Ended r.1)) c.end.new.self c.settle.new.columns.homes c.settle.new.columns.takers.items c.settle.new.values.items c.free.new.holders.holding.items) c.push_within.ensures.items
-    ∙ ended_shown s.checked.now.graph s.stages.items s.events s.columns.homes c.settle.new.columns.homes s.columns.takers.items c.settle.new.columns.takers.items s.values.items c.settle.new.values.items s.holders.holding.items c.free.new.holders.holding.items s.trace.items (finished_of r) c.self.invariant.core is places arrives frees c.end.new.self events
+    ap (shown_core s.hosted s.checked.now.graph (slice_set s.stages.items r.0 (Ended r.1)) c.end.new.self c.settle.new.columns.homes c.settle.new.columns.takers.items c.settle.new.values.items c.free.new.holders.holding.items) c.push_within.ensures.items
+    ∙ ended_shown s.hosted s.checked.now.graph s.stages.items s.events s.columns.homes c.settle.new.columns.homes s.columns.takers.items c.settle.new.columns.takers.items s.values.items c.settle.new.values.items s.holders.holding.items c.free.new.holders.holding.items s.trace.items (finished_of r) c.self.invariant.core is places arrives frees c.end.new.self events
 
 pub invariant_of-self : goal.invariant_of-self
 invariant_of-self c =
     let s = c.self.inside in
     let r = c.into_parts-line.result in
     let is = finished_is _ c.args.self.now c.args.finished r c.self.view_is c.into_parts-line.ensures c.requires in
-    let h = handle_at (shown_core s.checked.now.graph s.stages.items s.events s.columns.homes s.columns.takers.items s.values.items s.holders.holding.items s.trace.items) r.0 in
+    let h = handle_at (shown_core s.hosted s.checked.now.graph s.stages.items s.events s.columns.homes s.columns.takers.items s.values.items s.holders.holding.items s.trace.items) r.0 in
     let events : c.end.new.self ≡ ended_events s.events h (fate_for r.1) = c.end.ensures.map ∙ ap (ended_events s.events h) c.fate_for.ensures in
     let here = subst (λ (v : EventsValue). answer v.table h ≡ Some (answer_of (fate_for r.1))) events (c.end.ensures.ended ∙ ap (λ f. Some (answer_of f)) c.fate_for.ensures) in
     let others = subst (λ (v : EventsValue). (k : Handle) → k ≢ h → answer v.table k ≡ answer s.events.table k) events c.end.ensures.others in

@@ -6,12 +6,13 @@ use Rattle.run_core.specs.Kept.{shown_stage}
 use Rattle.run_core.specs.Resumed.{InState}
 use Rattle.run_core.proofs.PartsFacts.{shown_of}
 use Rattle.run_core.proofs.run.Core.resume.Goals as goal
+use Rattle.run_core.proofs.CoreFacts.{kept_core}
 
 pub of_parts-requires-clause-room : goal.of_parts-requires-clause-room
 of_parts-requires-clause-room c =
     let i = c.self.inside in
     let g = i.checked.now.graph in
-    let core = c.self.invariant.core in
+    let core = kept_core _ c.self.invariant.core in
     let staged : length (map shown_stage i.stages.items) ≡ length g.lines = core.sound.on_lines.each_line in
     let mapped = length-map i.stages.items shown_stage in
     let waiting : i.events.table.waiters ≡ length g.lines = core.events.waiters in
@@ -37,7 +38,7 @@ pub of_parts-requires-clause-enough : goal.of_parts-requires-clause-enough
 of_parts-requires-clause-enough c =
     let own : length c.self.inside.events.table.slots ≡ length c.args.self.table.slots = ap (λ (x : CoreValue). length x.table.slots) c.self.view_is in
     let same = c.requires.shown.2.slots in
-    let enough : c.need.result ≤ length c.self.inside.events.table.slots = c.self.invariant.core.slots c.need.result c.need.ensures.need in
+    let enough : c.need.result ≤ length c.self.inside.events.table.slots = (kept_core _ c.self.invariant.core).slots c.need.result c.need.ensures.need in
     omega (arith, own, same, enough, c.need.ensures.value)
 
 pub of_parts-requires-clause-most : goal.of_parts-requires-clause-most

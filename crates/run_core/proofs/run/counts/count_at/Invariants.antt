@@ -1,4 +1,4 @@
-use Rattle.std.proofs.Common.{◌≡◌, ◌≤◌, length, map}
+use Rattle.std.proofs.Common.{◌≡◌, ◌≤◌, map}
 use Rattle.basics.specs.Lists.{count_below}
 use Rattle.run_state.specs.Run.{stage_at}
 use Rattle.run_core.specs.Counts.{has_stage}

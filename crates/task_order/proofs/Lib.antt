@@ -1,0 +1,10 @@
+pub mod examples
+pub mod Statuses
+pub mod Pieces
+pub mod Paths
+pub mod InOrder
+pub mod Runs
+pub mod Agreement
+pub mod GoingOn
+pub mod Insertion
+pub mod Public

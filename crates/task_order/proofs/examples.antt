@@ -1,0 +1,3 @@
+pub mod FourTasks
+pub mod InsertedWhileRunning
+pub mod UndeclaredRead

@@ -1,0 +1,12 @@
+pub mod ChainFacts
+pub mod Counting
+pub mod Passing
+pub mod Steps
+pub mod Walking
+pub mod Inserting
+pub mod Collecting
+pub mod Noting
+pub mod Keeping
+pub mod Tasking
+pub mod RunsOfWindows
+pub mod Public
