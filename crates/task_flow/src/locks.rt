@@ -8,11 +8,11 @@ ghost use Rattle.task_flow.specs.Construction.{new_name, first_number, locks_fro
 ghost use Rattle.flow_order.specs.Flow.{IsFlow};
 ghost use Rattle.task_flow.specs.Making.{AreSections};
 
-use crate::copies::declared;
 use crate::making::Stop;
 use crate::numbers::new_name;
 use crate::quantities::most_lines;
 use crate::sections::Sections;
+use graph_copies::declared;
 use graph_model::graph::Graph;
 use graph_terms::decl::Decl;
 use graph_terms::lists::LineList;
