@@ -1,5 +1,5 @@
 -- What refuses the words of a line of a kind.
-use Rattle.std.proofs.Common.{◌≡◌, ℕ, Bool, true, false, cond, not, ◌&&◌, ◌||◌, List, [], ◌∷◌, ◌++◌, refl, sym, ◌∙◌, ap, inr, append-nil}
+use Rattle.std.proofs.Common.{◌≡◌, ◌≤◌, ℕ, Bool, length, arith, true, false, cond, not, ◌&&◌, ◌||◌, List, [], ◌∷◌, ◌++◌, refl, sym, ◌∙◌, ap, inr, append-nil}
 use Rattle.std.specs.Prelude.{Option, Some, None, Ok, bytes_eq, filter_map}
 use Rattle.std.specs.List.{list_any, list_all, cons_option}
 use Rattle.std.proofs.lemmas.List.Folds.{list_any-append}
@@ -38,6 +38,12 @@ quiet (p ∷ ps) (w ∷ ws) = quiet ps ws
 pub none_of : (es : List (List ℕ)) → list_any (λ w. false) es ≡ false
 none_of [] = refl
 none_of (e ∷ es) = none_of es
+
+-- one event does not stand there twice
+pub few_events : (es : List (List ℕ)) → length es ≤ 1 → repeats bytes_eq es ≡ false
+few_events [] h = refl
+few_events (e ∷ []) h = refl
+few_events (e ∷ f ∷ es) h = absurd (omega (arith, h))
 
 not_and : (b c d : Bool) → c ≡ not d → (not b || c) ≡ not (b && d)
 not_and true c d h = h

@@ -250,6 +250,7 @@ fn read_call(
 }
 
 /// The call that words spell, of which the first says so.
+#[inline(never)]
 pub(crate) fn call_line(
     alloc: Global,
     graph: &Graph,

@@ -6,7 +6,7 @@ ghost use Rattle.std.specs.List.{list_any};
 ghost use Rattle.std.specs.Str.{bytes_eq};
 ghost use Rattle.graph_terms.specs.Fits.{repeats};
 ghost use Rattle.graph_terms.specs.Table.{is_column, parts_of};
-ghost use Rattle.graph_words.specs.Draft.{number_in, words_in};
+ghost use Rattle.graph_words.specs.Draft.{form_of, number_in, on_events, words_in};
 ghost use Rattle.graph_reader.specs.Kinds.{kind_placed, form_placed, column_words, kind_draft, kind_on, form_repeats, later_reason, HasPlaces, IsFormFault};
 ghost use Rattle.word_meanings.specs.Telling.{AllTell};
 ghost use Rattle.graph_reader.specs.Reading.{IsLineRead};
@@ -98,21 +98,26 @@ fn see_form(alloc: Global, graph: &Graph, kind: Kind, words: &[&[u8]]) -> Result
     Ok(SeenForm { parts, on, faults })
 }
 
-/// Whether a word names what may be named no more, or one event or one column stands there twice.
+/// Whether a word names what may be named no more, or one event or one column stands there twice. `several` is `false` only where no event does.
 fn is_twice(
     alloc: Global,
     graph: &Graph,
     kind: Kind,
     words: &[&[u8]],
     faults: Faults,
+    several: bool,
 ) -> Result<bool, NoMemory>
     requires there { HasPlaces kind (contents words.now) }
+    requires several { several ≡ false → repeats bytes_eq (on_events graph.now.format (form_of kind) (contents words.now)) ≡ false }
     requires faults { AllTell graph.now (form_placed graph.now.format kind (contents words.now)) faults }
     requires named { faults.misnamed ≡ false }
     ensures { IfOk result (λ b. b ≡ (faults.twice || form_repeats graph.now.format kind (contents words.now))) }
 {
     if faults.twice || columns_repeat(kind.places(), words) {
         return Ok(true);
+    }
+    if !several {
+        return Ok(false);
     }
     events_repeat(alloc, graph, on_events(graph.format(), kind, words))
 }
@@ -134,6 +139,7 @@ pub(crate) fn later_fault(faults: Faults) -> Option<Why>
 }
 
 /// The first reason that refuses a word of a line. Where none does, the name may be in use: the graph says so itself.
+/// `several` is `false` only where no event stands there twice.
 fn form_fault(
     alloc: Global,
     graph: &Graph,
@@ -141,15 +147,17 @@ fn form_fault(
     name: &Name,
     words: &[&[u8]],
     faults: Faults,
+    several: bool,
 ) -> Result<Option<Why>, NoMemory>
     requires there { HasPlaces kind (contents words.now) }
+    requires several { several ≡ false → repeats bytes_eq (on_events graph.now.format (form_of kind) (contents words.now)) ≡ false }
     requires faults { AllTell graph.now (form_placed graph.now.format kind (contents words.now)) faults }
     ensures { IfOk result (λ why. IsFormFault graph.now kind name.now (contents words.now) why) }
 {
     if faults.misnamed {
         return Ok(Some(Why::Name));
     }
-    if is_twice(alloc, graph, kind, words, faults)? {
+    if is_twice(alloc, graph, kind, words, faults, several)? {
         return Ok(Some(Why::Twice));
     }
     let Some(later) = later_fault(faults) else {
@@ -178,7 +186,7 @@ pub(crate) fn read_form(
     let Ok(SeenForm { parts, on, faults }) = see_form(alloc, graph, kind, words) else {
         return Err(ItemError::NoMemory);
     };
-    match form_fault(alloc, graph, kind, &name, words, faults) {
+    match form_fault(alloc, graph, kind, &name, words, faults, on.len() > 1) {
         Ok(None) => {}
         Ok(Some(why)) => return Err(ItemError::Refused(why)),
         Err(_) => return Err(ItemError::NoMemory),

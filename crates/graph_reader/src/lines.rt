@@ -135,7 +135,8 @@ fn read_decl(alloc: Global, graph: &Graph, words: &[&[u8]]) -> Result<Decl, Item
     Err(ItemError::Refused(Why::Syntax))
 }
 
-/// The merge that words spell, of which the first says so.
+/// The merge that words spell, of which the first says so. Out of line, since most lines are of a kind.
+#[inline(never)]
 fn merge_line(
     alloc: Global,
     graph: &Graph,
@@ -207,7 +208,8 @@ fn operation(alloc: Global, graph: &Graph, words: &[&[u8]]) -> Result<Item, Item
     read_line(alloc, graph, word(words, 0), behind(words, 2))
 }
 
-/// The declaration that words spell, of which none is empty.
+/// The declaration that words spell, of which none is empty. Out of line, since most lines are operations.
+#[inline(never)]
 fn declaration(alloc: Global, graph: &Graph, words: &[&[u8]]) -> Result<Item, ItemError>
     requires filled { list_any is_empty (contents words.now) ≡ false }
     requires declaration { is_operation (contents words.now) ≡ false }

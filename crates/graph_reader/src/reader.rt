@@ -1,9 +1,11 @@
 //! Reading a graph from its text.
 
-ghost use Rattle.std.specs.Prelude.{◌≡◌, ◌++◌, ◌-◌, ◌^◌, ◌<◌, Some, None, OnOk, OnErr, IfOk, IfErr, MatchOption};
+ghost use Rattle.std.specs.Prelude.{◌≡◌, ◌==◌, ◌++◌, ◌-◌, ◌^◌, ◌<◌, false, Some, None, OnOk, OnErr, IfOk, IfErr, MatchOption};
 ghost use Rattle.graph_terms.specs.Spelling.{header};
 ghost use Rattle.graph_reader.specs.FirstFault.{HasNoHeader};
+ghost use Rattle.std.specs.List.{list_any};
 ghost use Rattle.graph_words.specs.Words.{pieces};
+ghost use Rattle.graph_words.specs.Cuts.{IsCut};
 ghost use Rattle.graph_words.specs.Text.{GraphText, bare_of, number_of};
 ghost use Rattle.graph_reader.specs.Reading.{item_value, with_value, open_fault, MayFollow, IsOpenError, IsTaken, IsWordsError, IsRefusal, IsReadAs, HasLine, IsBareReadAs, closed_reading};
 ghost use Rattle.graph_reader.specs.declared.reader.Reading.{Reading};
@@ -16,8 +18,8 @@ use graph_terms::format::Format;
 use graph_terms::limits::Limits;
 use graph_terms::why::Why;
 use graph_words::comments::{bare_of, number_of};
-use graph_words::cuts::cut;
 use index_spaces::NoMemory;
+use memchr::memchr;
 use std::alloc::Global;
 
 /// The format that the first line names, and the bytes behind it. `None` exactly where they begin with no such line.
@@ -32,6 +34,16 @@ fn read_header(bytes: &[u8]) -> Option<(Format, &[u8])>
     }
     match bytes.strip_prefix(b"realm 3\n".as_slice()) {
         Some(rest) => Some((Format::Three, rest)),
+        None => None,
+    }
+}
+
+/// The first line and the bytes behind its newline. `None` exactly where there is no newline.
+fn cut_line(bytes: &[u8]) -> Option<(&[u8], &[u8])>
+    ensures { MatchOption result (list_any (λ b. b == 10) bytes.now ≡ false) (λ x. IsCut 10 bytes.now x.0.now x.1.now) }
+{
+    match memchr(b'\n', bytes) {
+        Some(end) => Some((&bytes[..end], &bytes[end + 1..])),
         None => None,
     }
 }
@@ -145,7 +157,7 @@ fn read_bare(alloc: Global, bytes: &[u8]) -> Result<Reading, NoMemory>
     let mut graph = Graph::of_format(alloc, format);
     let mut words = Vec::new(alloc);
     let mut number: u32 = 2;
-    while let Some((line, after)) = cut(rest, b'\n') {
+    while let Some((line, after)) = cut_line(rest) {
         if line == b"end".as_slice() {
             return Ok(closed(graph, number, after, bytes.len() - after.len()));
         }
