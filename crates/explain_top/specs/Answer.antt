@@ -18,7 +18,7 @@ use Rattle.graph_meaning.specs.Rules.{Accepted}
 use Rattle.graph_reader.specs.Reading.{IsUnreadBy}
 use Rattle.graph_words.specs.Text.{GraphText}
 use Rattle.graph_words.specs.Words.{pieces}
-use Rattle.race_check.specs.NeedLine.{IsNeedLine}
+use Rattle.slot_need.specs.NeedLine.{IsNeedLine}
 use Rattle.race_check.specs.Refusal.{IsRefusal}
 use Rattle.race_check.specs.declared.checked.CheckRefusal.{CheckRefusal}
 use Rattle.explanations.specs.Reaches.{reach_at, IsReached, AreLinked, IsNever, IsFault, fault_edges}

@@ -2,13 +2,11 @@
 use Rattle.std.proofs.Common.{◌≡◌, ℕ, zero, suc, ◌<◌, ◌≤◌, ◌⊎◌, inl, inr, List, [], ◌∷◌, length, arith}
 use Rattle.std.specs.Prelude.{Some, slice_get}
 use Rattle.std.proofs.lemmas.Option.{none-some}
-use Rattle.race_sweeps.specs.Settled.{IsSettled}
-use Rattle.race_sweeps.proofs.AccessSteps.{access_there}
 use Rattle.graph_terms.specs.declared.verb.Line.{Line}
 use Rattle.graph_terms.specs.Graph.{GraphValue, is_acquire_of}
 use Rattle.graph_terms.specs.Edges.{edges}
 use Rattle.graph_meaning.specs.Path.{HasPath}
-use Rattle.graph_meaning.specs.Rules.{ReleasedAt, SectionAt, DescendsAt, ReleaseFaultAt, RaceAt}
+use Rattle.graph_meaning.specs.Rules.{ReleasedAt, SectionAt, DescendsAt, ReleaseFaultAt}
 use Rattle.graph_meaning.proofs.Public.{path_below}
 use Rattle.graph_terms.proofs.Public.{passes_below}
 use Rattle.cycle_search.specs.Paths.{EdgesBetween}
@@ -25,9 +23,6 @@ released_beyond g i h l a = (let b : i < length g.lines = passes_below (is_acqui
 pub fault_beyond : (g : GraphValue) (i : ℕ) → length g.lines ≤ i → ReleaseFaultAt g i
 fault_beyond g i h q l at r = (let b : i < length g.lines = line_there g.lines i l at in absurd (omega arith))
 
-pub settled_beyond : (g : GraphValue) (i j : ℕ) → length g.lines ≤ i → IsSettled g i j
-settled_beyond g i j h c = (let low : i < length g.lines = access_there g i c.one c.one_in in absurd (omega arith))
-
 module _ (g : GraphValue) (between : EdgesBetween g) where
   path_lines : (i j : ℕ) → HasPath g i j → (i < length g.lines) × (j < length g.lines)
   path_lines i j p = path_below (edges g) (length g.lines) between p
@@ -39,7 +34,3 @@ module _ (g : GraphValue) (between : EdgesBetween g) where
   pub descends_beyond : (i j : ℕ) → (length g.lines ≤ i) ⊎ (length g.lines ≤ j) → DescendsAt g i j
   descends_beyond i j (inl h) l k s a = (let b : i < length g.lines = (path_lines i j s.entered).0 in absurd (omega arith))
   descends_beyond i j (inr h) l k s a = (let b : j < length g.lines = (path_lines i j s.entered).1 in absurd (omega arith))
-
-  pub race_beyond : (i j : ℕ) → (length g.lines ≤ i) ⊎ (length g.lines ≤ j) → RaceAt g i j
-  race_beyond i j (inl h) below c = (let b : i < length g.lines = access_there g i c.one c.one_in in absurd (omega arith))
-  race_beyond i j (inr h) below c = (let b : j < length g.lines = access_there g j c.other c.other_in in absurd (omega arith))

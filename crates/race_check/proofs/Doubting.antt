@@ -4,10 +4,10 @@ use Rattle.graph_terms.specs.Graph.{GraphValue}
 use Rattle.graph_terms.specs.Fits.{IsGraph}
 use Rattle.graph_terms.specs.Reservations.{Releases}
 use Rattle.graph_meaning.specs.Rules.{ReleasedAt, SectionAt, DescendsAt}
-use Rattle.race_sweeps.specs.Settled.{is_noted}
+use Rattle.sweep_base.specs.Noted.{is_noted}
 use Rattle.section_sweeps.specs.Found.{AreDoubted}
-use Rattle.race_check.specs.Blocks.{HoldsIn}
-use Rattle.race_check.proofs.BlockSteps.{acquire_below, released_acquire, releases_known}
+use Rattle.sweep_base.specs.BlockRules.{HoldsIn}
+use Rattle.race_check.proofs.RuleFacts.{acquire_below, released_acquire, releases_known}
 
 module _ (g : GraphValue) (doubted : List Bool) (sound : AreDoubted g doubted) (first end : ℕ) where
   pub released_sure : ((i : ℕ) → first ≤ i → i < end → is_noted doubted i ≡ false) → (i : ℕ) → first ≤ i → i < end → ReleasedAt g i

@@ -13,18 +13,16 @@ use Rattle.graph_meaning.specs.Path.{HasPath}
 use Rattle.graph_terms.specs.Reservations.{Acquires, Releases}
 use Rattle.graph_meaning.specs.Rules.{Section, SectionAt, DescendsAt}
 use Rattle.graph_meaning.proofs.Public.{path_below}
-use Rattle.race_sweeps.specs.Marks.{bit_in}
-use Rattle.race_sweeps.proofs.Bits.{bit_in-and, bit_in-or, bit_in-not, or_old, or_new}
-use Rattle.race_sweeps.proofs.Walking.{none_left}
+use Rattle.sweep_base.specs.Bits.{bit_in}
+use Rattle.sweep_base.proofs.Public.{bit_in-and, bit_in-or, bit_in-not, or_old, or_new, none_left}
 use Rattle.section_sweeps.specs.Passing.{HasBit, HasEither, bits_at}
-use Rattle.section_sweeps.proofs.PassingSteps.{either_cases, either_own, either_passed}
 use Rattle.cycle_search.specs.Paths.{EdgesBetween}
-use Rattle.race_check.specs.Blocks.{IsLowest, NoneLow}
+use Rattle.sweep_base.specs.BlockRules.{IsLowest, NoneLow}
 use Rattle.race_check.specs.Inside.{IsBetween, IsInside, AreBetween, AreSides, AreOutside, MayCome}
 use Rattle.race_check.specs.declared.inside.Inside.{Inside}
 use Rattle.race_check.specs.declared.sections.Sides.{Sides}
 use Rattle.race_check.proofs.Held.{lock_is}
-use Rattle.race_check.proofs.RuleFacts.{releases_acquire}
+use Rattle.section_sweeps.proofs.Public.{releases_acquire}
 
 from_known : (g : GraphValue) → EdgesBetween g → (i j : ℕ) → HasPath g i j → i < length g.lines
 from_known g between i j p = (path_below (edges g) (length g.lines) between p).0
@@ -84,11 +82,11 @@ module _ (g : GraphValue) (between : EdgesBetween g) (first j : ℕ) (s : Sides)
   releasing b h = let r = is.releases_is.is j b h in (r.1.1.0, r.1.1.1, subst (λ z. HasPath g j z) (sym r.1.0) r.2)
 
   to_acquire : (b q : ℕ) → b < 64 → first + b < length g.lines → Releases g (first + b) q → (j ≡ q) ⊎ HasPath g j q → HasEither s.to_acquires.own.items s.to_acquires.passed.items j b
-  to_acquire b q few low rel (inl e) = either_own s.to_acquires.own.items s.to_acquires.passed.items j b (is.acquires_is.own_all j b few low (subst (λ z. Releases g (first + b) z) (sym e) rel))
-  to_acquire b q few low rel (inr p) = either_passed s.to_acquires.own.items s.to_acquires.passed.items j b (is.acquires_is.all j b q few low rel p)
+  to_acquire b q few low rel (inl e) = or_old (slice_index s.to_acquires.own.items j) (slice_index s.to_acquires.passed.items j) b (is.acquires_is.own_all j b few low (subst (λ z. Releases g (first + b) z) (sym e) rel))
+  to_acquire b q few low rel (inr p) = or_new (slice_index s.to_acquires.own.items j) (slice_index s.to_acquires.passed.items j) b (is.acquires_is.all j b q few low rel p)
 
   from_acquire : (b q : ℕ) → Releases g (first + b) q → HasEither s.to_acquires.own.items s.to_acquires.passed.items j b → (j ≡ q) ⊎ HasPath g j q
-  from_acquire b q rel h = elim (either_cases s.to_acquires.own.items s.to_acquires.passed.items j b h) [
+  from_acquire b q rel h = elim (or_cases (bit_in (slice_index s.to_acquires.own.items j) b) (bit_in (slice_index s.to_acquires.passed.items j) b) (sym (bit_in-or (slice_index s.to_acquires.own.items j) (slice_index s.to_acquires.passed.items j) b) ∙ h)) [
     | inl own ↦ inl (one_acquire g (first + b) j q (is.acquires_is.own_is j b own) rel)
     | inr passed ↦ (let t = is.acquires_is.is j b passed in inr (subst (λ z. HasPath g j z) (one_acquire g (first + b) t.0 q t.1 rel) t.2))
   ]

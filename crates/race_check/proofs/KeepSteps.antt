@@ -6,9 +6,9 @@ use Rattle.graph_terms.specs.Graph.{GraphValue, is_acquire_of}
 use Rattle.graph_terms.specs.Reservations.{Acquires}
 use Rattle.graph_meaning.specs.Rules.{Section}
 use Rattle.graph_terms.proofs.Public.{passes_below}
-use Rattle.race_sweeps.specs.Marks.{bit_in}
-use Rattle.race_sweeps.specs.declared.line_sections.Held.{Held}
-use Rattle.race_sweeps.specs.Held.{IsHeld}
+use Rattle.sweep_base.specs.Bits.{bit_in}
+use Rattle.sweep_base.specs.declared.line_sections.Held.{Held}
+use Rattle.sweep_base.specs.Held.{IsHeld}
 use Rattle.section_sweeps.specs.Sections.{AreHeldSoFar, IsGrown, IsKept}
 use Rattle.race_check.specs.Inside.{AreBetween, IsBetween}
 use Rattle.race_check.proofs.Insides.{between_of, section_of}

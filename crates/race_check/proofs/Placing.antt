@@ -6,7 +6,7 @@ use Rattle.std.proofs.lemmas.List.{get_or_read}
 use Rattle.std.proofs.lemmas.List.Elements.{Contains-get_or}
 use Rattle.graph_terms.specs.Graph.{GraphValue}
 use Rattle.graph_meaning.specs.Rules.{NoCycleAt, Everywhere}
-use Rattle.race_sweeps.specs.Placed.{IsOrder}
+use Rattle.sweep_base.specs.Placed.{IsOrder}
 use Rattle.cycle_search.specs.Paths.{EdgesBetween}
 use Rattle.basics.specs.Lists.{count_below}
 use Rattle.cycle_search.specs.Order.{IsOrdered, is_in}

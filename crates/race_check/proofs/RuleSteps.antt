@@ -8,10 +8,11 @@ use Rattle.graph_terms.specs.declared.verb.Line.{Line}
 use Rattle.graph_terms.specs.Graph.{GraphValue, is_release_of}
 use Rattle.graph_terms.specs.Fits.{IsGraph, named_lines}
 use Rattle.graph_terms.specs.Reservations.{Acquires, Releases}
-use Rattle.graph_meaning.specs.Rules.{ReleasedAt, ReleaseFaultAt, Everywhere, stands_on_merges}
+use Rattle.graph_meaning.specs.Rules.{ReleasedAt, ReleaseFaultAt, Everywhere, FailsFirst, stands_on_merges}
+use Rattle.race_check.specs.Blocks.{IsFirstIn}
 use Rattle.section_sweeps.specs.Releases.{release_in, AreReleases}
 use Rattle.graph_terms.proofs.Public.{release_of_is, release_is, is_release_from, passes_below, named_below}
-use Rattle.section_sweeps.proofs.ReservationFacts.{verb_of}
+use Rattle.sweep_base.proofs.Public.{verb_of}
 use Rattle.graph_terms.proofs.ReleaseFacts.{cut_at}
 use Rattle.graph_terms.specs.declared.verb.Verb.TheVariants.{Release}
 use Rattle.graph_meaning.specs.Path.{HasPath}
@@ -22,6 +23,13 @@ everywhere_by R n beyond below i = elim (cases_lt i n) [ inl l ↦ below i l | i
 
 pub below_with : (R : ℕ → Type 0) (n : ℕ) → ((k : ℕ) → k < n → R k) → R n → (k : ℕ) → k < n + 1 → R k
 below_with R n below here k h = elim (cases_lt k n) [ inl l ↦ below k l | inr up ↦ subst R (let e : n ≡ k = omega arith in e) here ]
+
+-- a rule of lines that is tried block by block
+pub first_found : (R : ℕ → Type 0) (first end i : ℕ) → ((k : ℕ) → k < first → R k) → IsFirstIn R first end i → FailsFirst R i
+first_found R first end i before f = record { here = f.here; before = λ k h. elim (cases_lt k first) [ inl l ↦ before k l | inr up ↦ f.before k up h ] }
+
+pub lines_more : (R : ℕ → Type 0) (first end : ℕ) → ((k : ℕ) → k < first → R k) → ((k : ℕ) → first ≤ k → k < end → R k) → (k : ℕ) → k < end → R k
+lines_more R first end before here k h = elim (cases_lt k first) [ inl l ↦ before k l | inr up ↦ here k up h ]
 
 -- an acquire and its release
 pub released_none : (g : GraphValue) (i : ℕ) → ((l : ℕ) → Acquires g i l → ⊥) → IsTrue true ↔ ReleasedAt g i

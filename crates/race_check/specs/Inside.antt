@@ -4,8 +4,8 @@ use Rattle.graph_terms.specs.Graph.{GraphValue, line_passes, is_phase, never_com
 use Rattle.graph_meaning.specs.Path.{HasPath}
 use Rattle.graph_terms.specs.Reservations.{Releases}
 use Rattle.graph_meaning.specs.Rules.{SectionAt}
-use Rattle.race_sweeps.specs.Marks.{bit_in}
-use Rattle.race_check.specs.Blocks.{ArePassedOn, ArePassedBack}
+use Rattle.sweep_base.specs.Bits.{bit_in}
+use Rattle.section_sweeps.specs.PassedBlocks.{ArePassedOn, ArePassedBack, IsRelease}
 use Rattle.race_check.specs.declared.inside.Inside.{Inside}
 use Rattle.race_check.specs.declared.sections.Sides.{Sides}
 
@@ -24,10 +24,6 @@ pub record IsInside (g : GraphValue) (first : ℕ) (s : Inside) : Type 0 where
 -- the bits of a word tell on which such paths line i lies
 abbrev pub AreBetween : GraphValue → ℕ → ℕ → ℕ → Type 0
 AreBetween g first i word = (b : ℕ) → b < 64 → (bit_in word b ≡ true) ↔ IsBetween g (first + b) i
-
--- a line is a release
-abbrev pub IsRelease : GraphValue → ℕ → ℕ → Type 0
-IsRelease g r i = (r ≡ i) × ((q : ℕ) × Releases g r q)
 
 -- the paths to the releases among the 64 lines from `first` on, and to and from their acquires
 pub record AreSides (g : GraphValue) (first : ℕ) (s : Sides) : Type 0 where

@@ -3,20 +3,20 @@
 ghost use Rattle.std.specs.Prelude.{◌≡◌, ◌+◌, ◌<◌, ◌≤◌, true, false, length, IfOk, MatchOption};
 ghost use Rattle.graph_terms.specs.Reservations.{Acquires};
 ghost use Rattle.graph_meaning.specs.Rules.{DescendsAt, EverywhereTwice, FailsFirstTwice};
-ghost use Rattle.race_check.specs.Blocks.{FailsFirstIn, HoldsIn, IsLowest, NoneLow};
+ghost use Rattle.sweep_base.specs.BlockRules.{FailsFirstIn, HoldsIn, IsLowest, NoneLow};
 ghost use Rattle.race_check.specs.Inside.{AreBetween};
 ghost use Rattle.section_sweeps.specs.Found.{AreDoubted};
 ghost use Rattle.section_sweeps.specs.Table.{IsTable};
 
 use crate::inside::Inside;
-use crate::races::is_any_noted;
 use graph_meaning::laws::edges_between_lines;
 use graph_model::graph::Graph;
 use index_spaces::NoMemory;
 use section_sweeps::lookups::Table;
-use section_sweeps::passing::has_bit;
-use section_sweeps::reservations::acquired;
 use std::alloc::Global;
+use sweep_base::bits::has_bit;
+use sweep_base::notes::is_any_noted;
+use sweep_base::reservations::acquired;
 
 /// The least acquire and the least acquire in its section whose reservation is not declared later;
 /// 64 lines at a time.

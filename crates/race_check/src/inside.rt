@@ -4,11 +4,11 @@ ghost use Rattle.std.specs.Prelude.{◌≡◌, ℕ, ◌<◌, length, IfOk};
 ghost use Rattle.race_check.specs.Inside.{AreBetween, IsInside};
 ghost use Rattle.section_sweeps.specs.Table.{IsTable};
 
-use crate::blocks::{lines_from, releases_from};
 use graph_meaning::laws::edges_between_lines;
 use graph_model::graph::Graph;
 use index_spaces::NoMemory;
 use section_sweeps::blocks::{passed_back, passed_forward};
+use section_sweeps::line_lists::{lines_from, releases_from};
 use section_sweeps::lookups::Table;
 use section_sweeps::passing::Passing;
 use std::alloc::Global;

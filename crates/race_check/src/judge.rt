@@ -1,10 +1,12 @@
 //! The six rules in turn.
 
-ghost use Rattle.std.specs.Prelude.{◌≡◌, length, OnOk, IfOk, IfErr};
+ghost use Rattle.std.specs.Prelude.{◌≡◌, ◌<◌, length, OnOk, IfOk, IfErr};
 ghost use Rattle.graph_meaning.specs.Need.{IsNeed};
-ghost use Rattle.graph_meaning.specs.Rules.{Accepted, Everywhere, EverywhereTwice, NoCycleAt, ReleasedAt, SectionAt, DescendsAt, ReleaseFaultAt, RaceAt};
+ghost use Rattle.graph_meaning.specs.Rules.{Accepted, Everywhere, EverywhereTwice, NoCycleAt, ReleasedAt, SectionAt, DescendsAt, ReleaseFaultAt, RaceAt, IsRace};
 ghost use Rattle.race_check.specs.Refusal.{IsRefusal, NamesLines};
-ghost use Rattle.race_sweeps.specs.Placed.{IsOrder};
+ghost use Rattle.race_check.specs.Topmost.{IsTopmostRace};
+ghost use Rattle.sweep_base.specs.Held.{IsHeld};
+ghost use Rattle.sweep_base.specs.Placed.{IsOrder};
 ghost use Rattle.section_sweeps.specs.Found.{AreDoubted};
 ghost use Rattle.section_sweeps.specs.Sections.{AreSections};
 ghost use Rattle.section_sweeps.specs.Table.{IsTable};
@@ -12,8 +14,6 @@ ghost use Rattle.section_sweeps.specs.Table.{IsTable};
 use crate::checked::CheckRefusal;
 use crate::descends::first_climbing;
 use crate::line_sections::sections_of_lines;
-use crate::need::need_of;
-use crate::races::first_race;
 use crate::release_faults::first_release_fault;
 use crate::releases::first_unreleased;
 use crate::sections::first_outside;
@@ -21,11 +21,15 @@ use cycle_search::cycle::first_cycle;
 use cycle_search::order::Order;
 use graph_meaning::laws::edges_between_lines;
 use graph_model::graph::Graph;
-use race_sweeps::line_sections::Held;
+use index_spaces::NoMemory;
+use race_pairs::first_race;
+use race_pairs::topmost::topmost_race_from;
 use section_sweeps::found_sections::Sections;
 use section_sweeps::held_sections;
 use section_sweeps::lookups::Table;
+use slot_need::need::need_of;
 use std::alloc::Global;
+use sweep_base::line_sections::Held;
 
 /// The need of a graph that is accepted, and otherwise the first rule that fails with the least
 /// lines at which it does.
@@ -209,5 +213,53 @@ fn no_races(alloc: Global, graph: &Graph, order: &[u32], held: &Held) -> Result<
     match first_race(alloc, graph, order, held)? {
         None => Ok(()),
         Some((one, other)) => Err(CheckRefusal::Race(one, other)),
+    }
+}
+
+/// The race whose later line stands first, where these two lines are told.
+pub(crate) fn topmost_of(
+    alloc: Global,
+    graph: &Graph,
+    first: u32,
+    second: u32,
+) -> Result<(u32, u32), NoMemory>
+    requires race { IsRace graph.now first second }
+    ensures lines { IfOk result (λ p. (p.0 < length graph.now.lines) × (p.1 < length graph.now.lines)) }
+    ensures topmost { IfOk result (λ p. IsTopmostRace graph.now p.0 p.1) }
+{
+    let order = order_of(alloc, graph)?;
+    let order = order.lines.as_slice();
+    let held = held_of(alloc, graph, order)?;
+    let found = topmost_race_from(alloc, graph, order, &held, first, second)?;
+    match found {
+        Some(pair) => Ok(pair),
+        None => unreachable!(),
+    }
+}
+
+/// An order of all lines, where there is no cycle.
+fn order_of(alloc: Global, graph: &Graph) -> Result<Order, NoMemory>
+    requires acyclic { Everywhere (NoCycleAt graph.now) }
+    ensures order { IfOk result (λ o. IsOrder graph.now o.lines.items) }
+    ensures count { IfOk result (λ o. length o.lines.items ≡ length graph.now.lines) }
+{
+    edges_between_lines();
+    let _ = graph.lines();
+    let order = Order::new(alloc, graph)?;
+    Ok(order)
+}
+
+/// In which sections the lines lie.
+fn held_of(alloc: Global, graph: &Graph, order: &[u32]) -> Result<Held, NoMemory>
+    requires order { IsOrder graph.now order.now }
+    requires count { length order.now ≡ length graph.now.lines }
+    ensures { IfOk result (IsHeld graph.now) }
+{
+    match held_sections(alloc, graph, order)? {
+        Sections::Kept(held) => Ok(held),
+        Sections::Doubted(_) => {
+            let table = Table::new(alloc, graph, order)?;
+            sections_of_lines(alloc, graph, &table)
+        }
     }
 }

@@ -1,37 +1,30 @@
 //! The check of a graph: accepted, or refused by the first of six rules that fails.
 #![tactic(auto)]
 
-mod block_conflicts;
-mod blocks;
 pub mod checked;
-mod common_sections;
-mod conflicts;
 mod descends;
-mod high_numbers;
 mod inside;
 mod judge;
 mod line_sections;
-mod need;
-mod races;
 mod release_faults;
 mod releases;
-mod reservations;
 mod sections;
 
-ghost use Rattle.std.specs.Prelude.{◌≡◌, ℕ, List, length, IfOk, IfErr, MatchOption};
+ghost use Rattle.std.specs.Prelude.{◌≡◌, ℕ, ◌<◌, List, length, IfOk, IfErr, MatchOption};
 ghost use Rattle.graph_terms.specs.Graph.{upgraded};
 ghost use Rattle.graph_meaning.specs.Evaluation.{outcome};
 ghost use Rattle.graph_meaning.specs.Need.{IsNeed};
-ghost use Rattle.graph_meaning.specs.Rules.{Accepted};
-ghost use Rattle.race_check.specs.NeedLine.{IsNeedLine};
+ghost use Rattle.graph_meaning.specs.Rules.{Accepted, IsRace};
+ghost use Rattle.slot_need.specs.NeedLine.{IsNeedLine};
 ghost use Rattle.race_check.specs.Refusal.{IsRefusal, NamesLines};
+ghost use Rattle.race_check.specs.Topmost.{IsTopmostRace};
 
 use crate::checked::{CheckRefusal, Checked, Unfit};
-use crate::judge::judge;
-use crate::need::need_line_of;
+use crate::judge::{judge, topmost_of};
 use graph_meaning::laws::upgrade_keeps_meaning;
 use graph_model::graph::Graph;
 use index_spaces::NoMemory;
+use slot_need::need::need_line_of;
 use std::alloc::Global;
 
 /// Accepts a graph, or gives it back unchanged with the first rule that fails and the least lines
@@ -47,6 +40,22 @@ pub fn check(alloc: Global, graph: Graph) -> Result<Checked, Unfit>
         Ok(need) => Ok(Checked::new(graph, need)),
         Err(why) => Err(Unfit { graph, why }),
     }
+}
+
+/// Of the lines that race, where the checker tells these two: the pair whose later line stands first, and
+/// of such pairs the one whose other line does, which is given first. It may be the one that is told. It
+/// takes about the time of acceptance, and more where many lines race.
+pub fn topmost_race(
+    alloc: Global,
+    graph: &Graph,
+    first: u32,
+    second: u32,
+) -> Result<(u32, u32), NoMemory>
+    requires race { IsRace graph.now first second }
+    ensures lines { IfOk result (λ p. (p.0 < length graph.now.lines) × (p.1 < length graph.now.lines)) }
+    ensures topmost { IfOk result (λ p. IsTopmostRace graph.now p.0 p.1) }
+{
+    topmost_of(alloc, graph, first, second)
 }
 
 /// The topmost line at which the need of a graph is reached: so many lines may be open there at once,

@@ -2,7 +2,7 @@
 
 ghost use Rattle.std.specs.Prelude.{◌≡◌, ℕ, ◌+◌, ◌-◌, ◌<◌, ◌≤◌, length, slice_index, OnOk, IfOk};
 ghost use Rattle.graph_meaning.specs.Rules.{Section};
-ghost use Rattle.race_sweeps.specs.Held.{IsHeld};
+ghost use Rattle.sweep_base.specs.Held.{IsHeld};
 ghost use Rattle.section_sweeps.specs.Sections.{AreHeldSoFar, IsGrown, IsKept};
 ghost use Rattle.section_sweeps.specs.Table.{IsTable};
 
@@ -11,10 +11,10 @@ use graph_meaning::laws::edges_between_lines;
 use graph_model::graph::Graph;
 use index_spaces::NoMemory;
 use index_spaces::room::push;
-use race_sweeps::line_sections::Held;
 use section_sweeps::kept_acquires::{keep_all, nothing_kept};
 use section_sweeps::lookups::Table;
 use std::alloc::Global;
+use sweep_base::line_sections::Held;
 
 /// In which sections the lines lie, 64 acquires at a time.
 pub(crate) fn sections_of_lines(

@@ -6,7 +6,7 @@ ghost use Rattle.graph_meaning.specs.Rules.{Everywhere, FailsFirst, ReleaseFault
 
 use graph_model::graph::Graph;
 use graph_terms::verb::Verb;
-use section_sweeps::reservations::released;
+use sweep_base::reservations::released;
 
 /// The least release that stands on no event, or on one that is no merge that ignores faults.
 pub(crate) fn first_release_fault(graph: &Graph) -> Option<u32>

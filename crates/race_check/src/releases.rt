@@ -2,20 +2,22 @@
 
 ghost use Rattle.std.specs.Prelude.{◌≡◌, ℕ, ◌+◌, ◌-◌, ◌<◌, ◌≤◌, ◌↔◌, length, IsTrue, IfOk, MatchOption};
 ghost use Rattle.graph_meaning.specs.Rules.{Everywhere, FailsFirst, ReleasedAt};
-ghost use Rattle.race_check.specs.Blocks.{ArePassedOn, IsFirstIn};
+ghost use Rattle.section_sweeps.specs.PassedBlocks.{ArePassedOn};
+ghost use Rattle.race_check.specs.Blocks.{IsFirstIn};
 ghost use Rattle.section_sweeps.specs.Found.{AreDoubted};
 ghost use Rattle.section_sweeps.specs.Table.{IsTable};
 
-use crate::blocks::lines_from;
-use crate::races::is_any_noted;
 use graph_meaning::laws::edges_between_lines;
 use graph_model::graph::Graph;
 use index_spaces::NoMemory;
 use section_sweeps::blocks::passed_forward;
+use section_sweeps::line_lists::lines_from;
 use section_sweeps::lookups::Table;
-use section_sweeps::passing::{Passing, has_bit};
-use section_sweeps::reservations::acquired;
+use section_sweeps::passing::Passing;
 use std::alloc::Global;
+use sweep_base::bits::has_bit;
+use sweep_base::notes::is_any_noted;
+use sweep_base::reservations::acquired;
 
 /// The least acquire that has no release with a path from it, 64 lines at a time.
 pub(crate) fn first_unreleased(

@@ -3,25 +3,26 @@
 ghost use Rattle.std.specs.Prelude.{◌≡◌, ℕ, ◌<◌, ◌≤◌, ◌&&◌, true, false, length, IfOk, MatchOption};
 ghost use Rattle.graph_terms.specs.Graph.{line_passes, is_phase, never_comes};
 ghost use Rattle.graph_meaning.specs.Rules.{EverywhereTwice, FailsFirstTwice, SectionAt};
-ghost use Rattle.race_check.specs.Blocks.{FailsFirstIn, HoldsIn};
+ghost use Rattle.sweep_base.specs.BlockRules.{FailsFirstIn, HoldsIn};
 ghost use Rattle.race_check.specs.Inside.{AreOutside, AreSides, MayCome};
-ghost use Rattle.race_sweeps.specs.Marks.{bit_in};
-ghost use Rattle.race_sweeps.specs.Settled.{is_noted};
+ghost use Rattle.sweep_base.specs.Bits.{bit_in};
+ghost use Rattle.sweep_base.specs.Noted.{is_noted};
 ghost use Rattle.graph_terms.specs.Reservations.{Releases};
 ghost use Rattle.section_sweeps.specs.Passing.{HasBit};
 ghost use Rattle.section_sweeps.specs.Found.{AreDoubted};
 ghost use Rattle.section_sweeps.specs.Table.{IsTable};
 
-use crate::blocks::{acquires_from, lowest, releasing_from};
 use graph_meaning::laws::edges_between_lines;
 use graph_model::graph::Graph;
 use graph_terms::verb::Verb;
 use index_spaces::NoMemory;
 use section_sweeps::blocks::{passed_back, passed_forward};
+use section_sweeps::line_lists::{acquires_from, releasing_from};
 use section_sweeps::lookups::Table;
 use section_sweeps::passing::Passing;
-use section_sweeps::reservations::released;
 use std::alloc::Global;
+use sweep_base::bits::lowest;
+use sweep_base::reservations::released;
 
 /// The least release and the least line that has a path to it and is neither its acquire, nor
 /// before the acquire, nor behind it and no phase that never comes; 64 lines at a time.

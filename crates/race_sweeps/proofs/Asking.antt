@@ -6,13 +6,14 @@ use Rattle.std.specs.List.{slice_index_or}
 use Rattle.std.proofs.lemmas.Bool.{cases_lt}
 use Rattle.std.proofs.lemmas.Option.{same_Some, slice_get_read, slice_get_within}
 use Rattle.race_sweeps.specs.declared.marks.Mark.{Mark}
-use Rattle.race_sweeps.specs.declared.lookups.Table.{Table}
-use Rattle.race_sweeps.specs.Classes.{AreNumbered, IsNear, place_at}
-use Rattle.race_sweeps.specs.Guards.{AreGuarded}
-use Rattle.race_sweeps.specs.Marks.{IsMarked, bit_in}
+use Rattle.conflict_classes.specs.declared.lookups.Table.{Table}
+use Rattle.conflict_classes.specs.Classes.{AreNumbered, IsNear, place_at}
+use Rattle.conflict_classes.specs.Guards.{AreGuarded}
+use Rattle.race_sweeps.specs.Marks.{IsMarked}
+use Rattle.sweep_base.specs.Bits.{bit_in}
 use Rattle.race_sweeps.specs.Members.{IsLastBelow}
 use Rattle.race_sweeps.specs.Scan.{IsAsked, IsMarkAsked}
-use Rattle.race_sweeps.proofs.Lists.{take_whole}
+use Rattle.sweep_base.proofs.Public.{take_whole}
 use Rattle.race_sweeps.proofs.Listed.{last_found}
 
 pub asked_kept : (t : Table) (hard : List ℕ) (a b : List Mark) → ((c x y : ℕ) → IsMarked a c x y → IsMarked b c x y) → (m : ℕ) (g : Mark) (d : ℕ) → IsAsked t hard a m g d → IsAsked t hard b m g d

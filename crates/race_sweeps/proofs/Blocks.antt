@@ -4,7 +4,7 @@ use Rattle.std.specs.Prelude.{slice_index, slice_set}
 use Rattle.std.proofs.lemmas.Bool.{cases_eq}
 use Rattle.std.proofs.lemmas.List.{length-set, get_or-set_same, get_or-set_other}
 use Rattle.race_sweeps.specs.Reach.{IsBounded}
-use Rattle.race_sweeps.specs.Settled.{is_noted}
+use Rattle.sweep_base.specs.Noted.{is_noted}
 use Rattle.race_sweeps.specs.declared.reach.Reach.{Reach}
 
 -- one block more is marked

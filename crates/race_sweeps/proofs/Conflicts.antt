@@ -8,8 +8,8 @@ use Rattle.index_spaces.proofs.Public.{points_are_listed}
 use Rattle.basics.proofs.ListFacts.{some_passes, passes_some}
 use Rattle.graph_meaning.proofs.RulesTable.{meet, accesses_conflict}
 use Rattle.graph_terms.proofs.Public.{both_shared_swap}
-use Rattle.race_sweeps.specs.Clash.{Clash, LinesClash}
-use Rattle.race_sweeps.specs.Held.{LieApart}
+use Rattle.conflict_classes.specs.Clash.{Clash, LinesClash}
+use Rattle.sweep_base.specs.Held.{LieApart}
 use Rattle.graph_terms.specs.declared.verb.Access.{Access}
 use Rattle.graph_terms.specs.Graph.{GraphValue, space_at}
 use Rattle.graph_terms.specs.Access.{all_accesses, AccessesConflict, modes_clash}

@@ -9,8 +9,8 @@ use Rattle.std.proofs.lemmas.List.{length-set, get_or-set_same, get_or-set_other
 use Rattle.std.proofs.lemmas.List.Elements.{Contains-get_or}
 use Rattle.graph_terms.specs.declared.verb.Access.{Access}
 use Rattle.graph_terms.specs.Graph.{GraphValue}
-use Rattle.race_sweeps.specs.declared.lookups.Table.{Table}
-use Rattle.race_sweeps.specs.Classes.{IsNear}
+use Rattle.conflict_classes.specs.declared.lookups.Table.{Table}
+use Rattle.conflict_classes.specs.Classes.{IsNear}
 use Rattle.race_sweeps.specs.Scan.{HasHard, IsHardTo}
 
 -- an item of the list beside a class

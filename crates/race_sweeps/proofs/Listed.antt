@@ -4,7 +4,7 @@ use Rattle.std.specs.Prelude.{Option, Some, None, slice_get, slice_index}
 use Rattle.std.proofs.lemmas.Bool.{cases_lt}
 use Rattle.graph_terms.specs.declared.verb.Access.{Access}
 use Rattle.graph_terms.specs.Graph.{GraphValue}
-use Rattle.race_sweeps.specs.Classes.{AreClasses, IsBegin, place_at}
+use Rattle.conflict_classes.specs.Classes.{AreClasses, IsBegin, place_at}
 use Rattle.race_sweeps.specs.Members.{IsLastBelow}
 use Rattle.race_sweeps.specs.Scan.{IsHard, HasHard}
 

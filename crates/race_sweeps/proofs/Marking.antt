@@ -7,7 +7,8 @@ use Rattle.std.proofs.lemmas.Option.{slice_get_within, get_or_from_slice_get}
 use Rattle.std.proofs.lemmas.List.{length-set, get_or-set_same, get_or-set_other}
 use Rattle.std.proofs.lemmas.List.Elements.{Contains-push, Contains-push_cases, Contains-append_left}
 use Rattle.race_sweeps.specs.declared.marks.Mark.{Mark}
-use Rattle.race_sweeps.specs.Marks.{bit_in, IsMarked, AreMarksBelow}
+use Rattle.sweep_base.specs.Bits.{bit_in}
+use Rattle.race_sweeps.specs.Marks.{IsMarked, AreMarksBelow}
 use Rattle.race_sweeps.proofs.Lists.{set_cases}
 
 -- a mark is joined with another of its class

@@ -5,10 +5,11 @@ use Rattle.std.proofs.lemmas.Bool.{cases_eq}
 use Rattle.std.proofs.lemmas.List.{get_or-set_same, get_or-set_other}
 use Rattle.graph_terms.specs.Graph.{GraphValue}
 use Rattle.race_sweeps.specs.declared.marks.Mark.{Mark}
-use Rattle.race_sweeps.specs.declared.lookups.Table.{Table}
-use Rattle.race_sweeps.specs.Classes.{place_at}
+use Rattle.conflict_classes.specs.declared.lookups.Table.{Table}
+use Rattle.conflict_classes.specs.Classes.{place_at}
 use Rattle.race_sweeps.specs.Scan.{AreSettledWith, IsWalked, AreAnsweredAt}
-use Rattle.race_sweeps.specs.Settled.{AreStillNoted, IsSettledOrNoted, is_noted}
+use Rattle.sweep_base.specs.Noted.{AreStillNoted, is_noted}
+use Rattle.race_sweeps.specs.Enough.{IsSettledOrNoted}
 
 pub settled_still : (g : GraphValue) (old new : List Bool) (i j : ℕ) → AreStillNoted old new → IsSettledOrNoted g old i j → IsSettledOrNoted g new i j
 settled_still g old new i j still (inl settled) = inl settled

@@ -15,21 +15,9 @@ use Rattle.graph_terms.specs.Fits.{IsGraph}
 use Rattle.graph_meaning.specs.Laws.{EdgesBetweenLines}
 use Rattle.graph_meaning.specs.Path.{HasPath, last, first}
 use Rattle.basics.proofs.ListFacts.{filter_contains}
-use Rattle.race_sweeps.specs.Marks.{bit_in}
+use Rattle.sweep_base.specs.Bits.{bit_in}
 use Rattle.race_sweeps.specs.Reach.{AreReachedOrSelf, IsReach}
-use Rattle.race_sweeps.proofs.Bits.{bit_in-or}
-
-abbrev pub no_edge : Edge
-no_edge = record { «from» = 0; «to» = 0; «kind» = Passes }
-
--- an edge into a line, as the loop goes over them
-pub edge_in : (g : GraphValue) (i k : ℕ) (es : List Edge) → es ≡ edges_into g i → k < length es → Contains (edges g) (slice_index_or es k no_edge) × ((slice_index_or es k no_edge).to ≡ i)
-edge_in g i k es is h =
-    let f = filter_contains (λ (e : Edge). e.to == i) (edges g) (slice_index_or es k no_edge) (subst (λ xs. Contains xs (slice_index_or es k no_edge)) is (Contains-get_or es k no_edge h)) in
-    (f.0, eqb-true (slice_index_or es k no_edge).to i f.1)
-
-pub source_known : (g : GraphValue) → IsGraph g → EdgesBetweenLines → (i k : ℕ) (es : List Edge) → es ≡ edges_into g i → k < length es → (slice_index_or es k no_edge).from < length g.lines
-source_known g f between i k es is h = (between g (slice_index_or es k no_edge) f (edge_in g i k es is h).0).0
+use Rattle.sweep_base.proofs.Public.{bit_in-or}
 
 -- the source of an edge reaches what its target reaches, and its target
 module _ (g : GraphValue) (lines words : List ℕ) (x p line word : ℕ) (at : slice_index lines x ≡ line) (e : Edge) (known : Contains (edges g) e) (to : e.to ≡ line) (source : slice_index lines p ≡ e.from) (small : p < length words) where

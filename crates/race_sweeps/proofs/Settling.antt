@@ -14,13 +14,15 @@ use Rattle.graph_meaning.specs.Laws.{EdgesBetweenLines}
 use Rattle.graph_meaning.specs.Path.{Path, HasPath, last, first}
 use Rattle.graph_meaning.specs.Rules.{modes_commute}
 use Rattle.graph_meaning.proofs.Public.{path_append, conflict_back, commute_back, lines_back, exempt_back}
-use Rattle.race_sweeps.specs.Placed.{IsPlaced}
+use Rattle.sweep_base.specs.Placed.{IsPlaced}
 use Rattle.race_sweeps.specs.Scan.{IsHard, HasHard, AreAnsweredAt}
-use Rattle.race_sweeps.specs.Settled.{IsSettled, AreEnough, is_noted}
-use Rattle.race_sweeps.specs.Held.{LieApart}
+use Rattle.conflict_classes.specs.Settled.{IsSettled}
+use Rattle.race_sweeps.specs.Enough.{AreEnough}
+use Rattle.sweep_base.specs.Noted.{is_noted}
+use Rattle.sweep_base.specs.Held.{LieApart}
 use Rattle.race_sweeps.proofs.Conflicts.{apart_back, lines_decided}
-use Rattle.race_sweeps.proofs.AccessSteps.{access_there}
-use Rattle.race_sweeps.proofs.Sections.{exempt_by}
+use Rattle.conflict_classes.proofs.Public.{access_there, settled_back}
+use Rattle.conflict_classes.proofs.Public.{exempt_by}
 
 clash_write : (m : Mode) → modes_clash m Write ≡ true
 clash_write Read = refl
@@ -97,13 +99,6 @@ module _ (g : GraphValue) where
         | inr (inr again) ↦ absurd (true≢false (sym hard.2.2.counts ∙ ap not again.0))
       ]
     ]
-  ]
-
-  pub settled_back : (i j : ℕ) → IsSettled g i j → IsSettled g j i
-  settled_back i j settled c = elim (settled (lines_back g j i c)) [
-    | inl path ↦ inr (inl path)
-    | inr (inl back) ↦ inl back
-    | inr (inr exempt) ↦ inr (inr (exempt_back g i j exempt))
   ]
 
   fine_back : (i j : ℕ) (a b : Access) → IsFine g i j a b → IsFine g j i b a

@@ -8,15 +8,15 @@ use Rattle.graph_terms.specs.Graph.{GraphValue}
 use Rattle.graph_terms.specs.Access.{AccessesConflict, modes_clash}
 use Rattle.graph_meaning.specs.Rules.{modes_commute}
 use Rattle.race_sweeps.specs.declared.marks.Mark.{Mark}
-use Rattle.race_sweeps.specs.declared.lookups.Table.{Table}
-use Rattle.race_sweeps.specs.Classes.{AreNumbered, HasNumber, IsBegin, place_at}
-use Rattle.race_sweeps.specs.Guards.{AreGuarded}
-use Rattle.race_sweeps.specs.Held.{LieApart}
-use Rattle.race_sweeps.specs.Marks.{bit_in}
+use Rattle.conflict_classes.specs.declared.lookups.Table.{Table}
+use Rattle.conflict_classes.specs.Classes.{AreNumbered, HasNumber, IsBegin, place_at}
+use Rattle.conflict_classes.specs.Guards.{AreGuarded}
+use Rattle.sweep_base.specs.Held.{LieApart}
+use Rattle.sweep_base.specs.Bits.{bit_in}
 use Rattle.race_sweeps.specs.Scan.{IsHardTo, IsAnswerable, IsAskable, IsMarkAsked, IsWalked, AreAnsweredAt, AreSettledWith}
 use Rattle.race_sweeps.specs.ScanState.{AreGrouped}
-use Rattle.race_sweeps.specs.Settled.{IsSettledOrNoted}
-use Rattle.race_sweeps.specs.Table.{IsTable}
+use Rattle.race_sweeps.specs.Enough.{IsSettledOrNoted}
+use Rattle.conflict_classes.specs.Table.{IsTable}
 use Rattle.graph_meaning.proofs.Public.{conflict_back, commute_back}
 
 -- an access of a line before place `end` has a number below the beginning of that place

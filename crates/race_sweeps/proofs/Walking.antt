@@ -9,14 +9,15 @@ use Rattle.std.proofs.lemmas.Option.{slice_get_within}
 use Rattle.std.proofs.lemmas.Nat.Bits.{bit_at-zero}
 use Rattle.graph_terms.specs.Graph.{GraphValue}
 use Rattle.race_sweeps.specs.declared.marks.Mark.{Mark}
-use Rattle.race_sweeps.specs.declared.lookups.Table.{Table}
-use Rattle.race_sweeps.specs.Classes.{AreNumbered, place_at}
-use Rattle.race_sweeps.specs.Marks.{bit_in}
+use Rattle.conflict_classes.specs.declared.lookups.Table.{Table}
+use Rattle.conflict_classes.specs.Classes.{AreNumbered, place_at}
+use Rattle.sweep_base.specs.Bits.{bit_in}
 use Rattle.race_sweeps.specs.Members.{IsLastBelow}
 use Rattle.race_sweeps.specs.Reach.{IsReach}
 use Rattle.race_sweeps.specs.Scan.{AreSettledWith, IsWalked}
-use Rattle.race_sweeps.specs.Settled.{AreStillNoted, IsSettledOrNoted}
-use Rattle.race_sweeps.proofs.Bits.{bit_in-and, bit_in-not}
+use Rattle.sweep_base.specs.Noted.{AreStillNoted}
+use Rattle.race_sweeps.specs.Enough.{IsSettledOrNoted}
+use Rattle.sweep_base.proofs.Public.{bit_in-and, bit_in-not}
 use Rattle.race_sweeps.proofs.Listed.{last_found, last_none}
 use Rattle.race_sweeps.proofs.Noting.{with_still}
 
@@ -94,6 +95,3 @@ settled_by g lines words racing first x word behind reached r is fits later left
       ∙ and_from (bit_in (bit_and word behind) b) (bit_in (bit_not w64 reached) b) (bit_in-and word behind b ∙ and_from (bit_in word b) (bit_in behind b) set (later b low up))
       (bit_in-not reached b fits low ∙ not_from_false (bit_in reached b) no'))
 ]
-
-pub none_left : (left b : ℕ) → left ≡ 0 → bit_in left b ≡ true → ⊥
-none_left left b none set = true≢false (sym set ∙ (ap (λ z. bit_in z b) none ∙ ne_eqb _ 1 (λ one. (let z = bit_at-zero b in absurd (omega (arith, z, one))))))

@@ -1,13 +1,6 @@
-pub mod Clash
-pub mod Held
-pub mod Placed
-pub mod Settled
-pub mod Classes
-pub mod Guards
-pub mod Table
+pub mod Enough
 pub mod Marks
 pub mod Members
-pub mod Spots
 pub mod Reach
 pub mod Scan
 pub mod ScanState

@@ -1,11 +1,7 @@
 -- Marks of classes with lines.
-use Rattle.std.specs.Prelude.{◌≡◌, ℕ, ◌<◌, ◌≤◌, ◌==◌, Bool, true, List, Contains}
-use Rattle.std.specs.Int.{bit_at}
+use Rattle.std.specs.Prelude.{◌≡◌, ℕ, ◌<◌, ◌≤◌, true, List, Contains}
+use Rattle.sweep_base.specs.Bits.{bit_in}
 use Rattle.race_sweeps.specs.declared.marks.Mark.{Mark}
-
--- the bit of a number below 64 in a word
-abbrev pub bit_in : ℕ → ℕ → Bool
-bit_in word b = bit_at word b == 1
 
 -- a class is marked with line b of a slice, from place x or a place before it on
 pub record IsMarked (marks : List Mark) (c b x : ℕ) : Type 0 where

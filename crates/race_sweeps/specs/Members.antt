@@ -1,6 +1,6 @@
 -- The members of classes, each with the one before it.
 use Rattle.std.specs.Prelude.{◌≡◌, ℕ, ◌<◌, List, length, Option, Some, MatchOption, slice_get}
-use Rattle.race_sweeps.specs.Classes.{kept_at}
+use Rattle.conflict_classes.specs.Classes.{kept_at}
 
 -- the last member of class c below number m, where there is one
 abbrev pub IsLastBelow : List ℕ → ℕ → ℕ → Option ℕ → Type 0

@@ -2,8 +2,8 @@
 use Rattle.std.specs.Prelude.{◌≡◌, ℕ, ◌+◌, ◌/◌, ◌<◌, ◌⊎◌, Bool, true, List, length, slice_index}
 use Rattle.graph_terms.specs.Graph.{GraphValue}
 use Rattle.graph_meaning.specs.Path.{HasPath}
-use Rattle.race_sweeps.specs.Marks.{bit_in}
-use Rattle.race_sweeps.specs.Settled.{is_noted}
+use Rattle.sweep_base.specs.Bits.{bit_in}
+use Rattle.sweep_base.specs.Noted.{is_noted}
 use Rattle.race_sweeps.specs.declared.reach.Reach.{Reach}
 
 -- each bit of a word tells of a path from the line at place x to one of the 64 lines from place `first` on

@@ -7,12 +7,13 @@ use Rattle.graph_terms.specs.Graph.{GraphValue}
 use Rattle.graph_terms.specs.Access.{all_accesses, is_reduction, AccessesConflict}
 use Rattle.graph_meaning.specs.Rules.{Section, modes_commute}
 use Rattle.race_sweeps.specs.declared.marks.Mark.{Mark}
-use Rattle.race_sweeps.specs.declared.lookups.Table.{Table}
-use Rattle.race_sweeps.specs.Classes.{IsNear, place_at}
-use Rattle.race_sweeps.specs.Guards.{AreGuarded}
-use Rattle.race_sweeps.specs.Held.{LieApart}
-use Rattle.race_sweeps.specs.Marks.{bit_in, IsMarked}
-use Rattle.race_sweeps.specs.Settled.{IsSettledOrNoted}
+use Rattle.conflict_classes.specs.declared.lookups.Table.{Table}
+use Rattle.conflict_classes.specs.Classes.{IsNear, place_at}
+use Rattle.conflict_classes.specs.Guards.{AreGuarded}
+use Rattle.sweep_base.specs.Held.{LieApart}
+use Rattle.sweep_base.specs.Bits.{bit_in}
+use Rattle.race_sweeps.specs.Marks.{IsMarked}
+use Rattle.race_sweeps.specs.Enough.{IsSettledOrNoted}
 
 -- an access of line i that no exemption covers: a write, or a reduction outside of all sections
 abbrev pub IsHard : GraphValue → ℕ → Mode → Type 0

@@ -4,8 +4,8 @@ use Rattle.graph_terms.specs.Graph.{GraphValue}
 use Rattle.race_sweeps.specs.declared.marks.Mark.{Mark}
 use Rattle.race_sweeps.specs.declared.members.Members.{Members}
 use Rattle.race_sweeps.specs.declared.scan.Scan.{Scan}
-use Rattle.race_sweeps.specs.declared.lookups.Table.{Table}
-use Rattle.race_sweeps.specs.Classes.{place_at}
+use Rattle.conflict_classes.specs.declared.lookups.Table.{Table}
+use Rattle.conflict_classes.specs.Classes.{place_at}
 use Rattle.race_sweeps.specs.Marks.{IsMarked}
 use Rattle.race_sweeps.specs.Members.{AreMembers}
 use Rattle.race_sweeps.specs.Reach.{IsBounded}

@@ -2,18 +2,18 @@
 
 ghost use Rattle.std.specs.Prelude.{◌≡◌, ◌≢◌, ℕ, ◌<◌, [], length, Contains, Some, IsTrue, slice_get, OnOk};
 ghost use Rattle.graph_terms.specs.declared.verb.Access.{Access};
-ghost use Rattle.race_sweeps.specs.Classes.{AreNumbered, IsNear};
-ghost use Rattle.race_sweeps.specs.Guards.{AreGuarded};
+ghost use Rattle.conflict_classes.specs.Classes.{AreNumbered, IsNear};
+ghost use Rattle.conflict_classes.specs.Guards.{AreGuarded};
 ghost use Rattle.race_sweeps.specs.Marks.{IsMarked, AreMarksBelow};
 ghost use Rattle.race_sweeps.specs.Scan.{IsAsked, IsMarkAsked};
 ghost use Rattle.race_sweeps.specs.ScanState.{AreListed};
 ghost use Rattle.race_sweeps.specs.declared.marks.Mark.{Mark};
-ghost use Rattle.race_sweeps.specs.declared.lookups.Table.{Table};
+ghost use Rattle.conflict_classes.specs.declared.lookups.Table.{Table};
 
-use crate::clash::modes_commute;
-use crate::lookups::Table;
 use crate::marks::{Mark, Marks};
 use crate::members::Members;
+use conflict_classes::clash::modes_commute;
+use conflict_classes::lookups::Table;
 use graph_terms::verb::Mode;
 use index_spaces::NoMemory;
 

@@ -2,12 +2,6 @@
 #![tactic(auto)]
 
 mod asked_classes;
-pub mod clash;
-mod class_conflicts;
-mod classes;
-mod guards;
-pub mod line_sections;
-mod lookups;
 mod marks;
 mod members;
 mod reach;
@@ -16,18 +10,18 @@ mod unexempt;
 mod walk;
 
 ghost use Rattle.std.specs.Prelude.{◌≡◌, length, IfOk, IfSome};
-ghost use Rattle.race_sweeps.specs.Held.{IsHeld};
-ghost use Rattle.race_sweeps.specs.Placed.{IsOrder};
-ghost use Rattle.race_sweeps.specs.Settled.{AreEnough};
-ghost use Rattle.race_sweeps.specs.Table.{IsTable};
+ghost use Rattle.sweep_base.specs.Held.{IsHeld};
+ghost use Rattle.sweep_base.specs.Placed.{IsOrder};
+ghost use Rattle.race_sweeps.specs.Enough.{AreEnough};
+ghost use Rattle.conflict_classes.specs.Table.{IsTable};
 
-use crate::line_sections::Held;
-use crate::lookups::Table;
 use crate::scan::Scan;
+use conflict_classes::lookups::Table;
 use graph_model::graph::Graph;
 use index_spaces::NoMemory;
 use index_spaces::room::filled;
 use std::alloc::Global;
+use sweep_base::line_sections::Held;
 
 /// For each line whether it is noted as one that races, from an order in which each edge leads
 /// forward: a line with which each line noted is settled is settled with all, so none is noted

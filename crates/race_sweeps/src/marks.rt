@@ -1,7 +1,8 @@
 //! Marks of classes with lines of a slice.
 
 ghost use Rattle.std.specs.Prelude.{◌≡◌, ℕ, ◌<◌, ◌≤◌, true, [], length, slice_get, OnOk, IfOk, IfSome};
-ghost use Rattle.race_sweeps.specs.Marks.{IsMarked, AreMarksBelow, bit_in};
+ghost use Rattle.race_sweeps.specs.Marks.{IsMarked, AreMarksBelow};
+ghost use Rattle.sweep_base.specs.Bits.{bit_in};
 
 use index_spaces::NoMemory;
 use index_spaces::room::{filled, push};

@@ -2,11 +2,11 @@
 
 ghost use Rattle.std.specs.Prelude.{◌≡◌, ℕ, ◌+◌, ◌*◌, ◌/◌, ◌<◌, ◌≤◌, ◌⊎◌, true, length, slice_index, slice_set, IfOk};
 ghost use Rattle.std.specs.Int.RustNames.{bit_or};
-ghost use Rattle.race_sweeps.specs.Marks.{bit_in};
+ghost use Rattle.sweep_base.specs.Bits.{bit_in};
 ghost use Rattle.race_sweeps.specs.Reach.{AreReachedOrSelf, IsReach, IsBounded};
-ghost use Rattle.race_sweeps.specs.Table.{IsTable};
+ghost use Rattle.conflict_classes.specs.Table.{IsTable};
 
-use crate::lookups::Table;
+use conflict_classes::lookups::Table;
 use graph_meaning::laws::edges_between_lines;
 use graph_model::graph::Graph;
 use index_spaces::NoMemory;

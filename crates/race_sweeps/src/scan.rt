@@ -1,26 +1,27 @@
 //! The scan for lines that race.
 
 ghost use Rattle.std.specs.Prelude.{◌≡◌, ℕ, ◌+◌, ◌-◌, ◌<◌, ◌≤◌, [], length, Some, slice_get, slice_index, OnOk, IfOk};
-ghost use Rattle.race_sweeps.specs.Held.{IsHeld};
-ghost use Rattle.race_sweeps.specs.Classes.{AreNumbered, IsBegin, place_at};
+ghost use Rattle.sweep_base.specs.Held.{IsHeld};
+ghost use Rattle.conflict_classes.specs.Classes.{AreNumbered, IsBegin, place_at};
 ghost use Rattle.race_sweeps.specs.Marks.{AreMarksBelow, IsMarked};
 ghost use Rattle.race_sweeps.specs.Scan.{AreAnsweredAt};
 ghost use Rattle.race_sweeps.specs.ScanState.{AreListed, IsScanned, AreGrouped};
-ghost use Rattle.race_sweeps.specs.Settled.{AreEnough, AreStillNoted};
-ghost use Rattle.race_sweeps.specs.Table.{IsTable};
+ghost use Rattle.race_sweeps.specs.Enough.{AreEnough};
+ghost use Rattle.sweep_base.specs.Noted.{AreStillNoted};
+ghost use Rattle.conflict_classes.specs.Table.{IsTable};
 
 use crate::asked_classes::ask_all;
-use crate::line_sections::Held;
-use crate::lookups::Table;
 use crate::marks::Marks;
 use crate::members::Members;
 use crate::reach::Reach;
 use crate::unexempt::harden_all;
+use conflict_classes::lookups::Table;
 use graph_meaning::laws::edges_between_lines;
 use graph_model::graph::Graph;
 use index_spaces::NoMemory;
 use index_spaces::room::filled;
 use std::alloc::Global;
+use sweep_base::line_sections::Held;
 
 /// A scan under way: the members of the classes, the last hard place of each class, what reaches
 /// the lines of the slice, which classes have lines in it and which are asked about these.

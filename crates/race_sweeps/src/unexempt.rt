@@ -3,19 +3,19 @@
 ghost use Rattle.std.specs.Prelude.{◌≡◌, ℕ, ◌<◌, ◌≤◌, length, Some, slice_get, slice_index, IsTrue};
 ghost use Rattle.graph_terms.specs.declared.verb.Access.{Access};
 ghost use Rattle.graph_terms.specs.Graph.{GraphValue};
-ghost use Rattle.race_sweeps.specs.Classes.{IsNear};
-ghost use Rattle.race_sweeps.specs.Held.{IsHeld};
+ghost use Rattle.conflict_classes.specs.Classes.{IsNear};
+ghost use Rattle.sweep_base.specs.Held.{IsHeld};
 ghost use Rattle.race_sweeps.specs.Marks.{AreMarksBelow};
 ghost use Rattle.race_sweeps.specs.Scan.{IsHard, HasHard, IsHardTo};
 ghost use Rattle.race_sweeps.specs.ScanState.{AreListed};
-ghost use Rattle.race_sweeps.specs.Table.{IsTable};
+ghost use Rattle.conflict_classes.specs.Table.{IsTable};
 
-use crate::line_sections::Held;
-use crate::lookups::Table;
 use crate::marks::Mark;
 use crate::members::Members;
+use conflict_classes::lookups::Table;
 use graph_model::graph::Graph;
 use graph_terms::verb::{Access, Mode};
+use sweep_base::line_sections::Held;
 
 /// Notes the last member of each group's class, where its access is hard.
 pub(crate) fn harden_all(

@@ -1,22 +1,25 @@
 //! The walks over the members of the classes that are asked, which note the lines that race.
 
 ghost use Rattle.std.specs.Prelude.{◌≡◌, ℕ, ◌+◌, ◌<◌, ◌≤◌, true, length, Contains, slice_index, IsTrue};
-ghost use Rattle.race_sweeps.specs.Held.{IsHeld};
-ghost use Rattle.race_sweeps.specs.Marks.{AreMarksBelow, bit_in};
+ghost use Rattle.sweep_base.specs.Held.{IsHeld};
+ghost use Rattle.race_sweeps.specs.Marks.{AreMarksBelow};
+ghost use Rattle.sweep_base.specs.Bits.{bit_in};
 ghost use Rattle.race_sweeps.specs.Reach.{IsReach};
 ghost use Rattle.race_sweeps.specs.Scan.{AreSettledWith, IsWalked};
 ghost use Rattle.race_sweeps.specs.ScanState.{AreListed};
-ghost use Rattle.race_sweeps.specs.Settled.{AreStillNoted, IsSettledOrNoted, is_noted};
-ghost use Rattle.race_sweeps.specs.Table.{IsTable};
+ghost use Rattle.sweep_base.specs.Noted.{AreStillNoted, is_noted};
+ghost use Rattle.race_sweeps.specs.Enough.{IsSettledOrNoted};
+ghost use Rattle.conflict_classes.specs.Table.{IsTable};
 ghost use Rattle.race_sweeps.specs.declared.marks.Mark.{Mark};
 
-use crate::clash::is_exempt;
-use crate::line_sections::Held;
-use crate::lookups::Table;
 use crate::marks::Mark;
 use crate::reach::later;
 use crate::scan::Scan;
+use conflict_classes::clash::is_exempt;
+use conflict_classes::lookups::Table;
 use graph_model::graph::Graph;
+use sweep_base::bits::has_bit;
+use sweep_base::line_sections::Held;
 
 impl Scan {
     /// Settles the members that are asked with the lines that they are asked about.
@@ -194,12 +197,4 @@ fn are_noted(racing: &[bool], one: u32, other: u32) -> bool
     ensures { IsTrue result → (is_noted racing.now one ≡ true) × (is_noted racing.now other ≡ true) }
 {
     racing[one as usize] && racing[other as usize]
-}
-
-/// Whether a word has this bit.
-fn has_bit(word: u64, bit: u32) -> bool
-    requires { bit < 64 }
-    ensures { result ≡ bit_in word bit }
-{
-    word >> bit & 1 == 1
 }

@@ -10,8 +10,8 @@ use Rattle.graph_meaning.specs.Path.{HasPath, last, first}
 use Rattle.graph_terms.specs.Reservations.{Releases}
 use Rattle.graph_meaning.specs.Rules.{Section}
 use Rattle.graph_terms.proofs.Public.{release_one, one_release}
-use Rattle.race_sweeps.specs.Marks.{bit_in}
-use Rattle.race_sweeps.specs.declared.line_sections.Held.{Held}
+use Rattle.sweep_base.specs.Bits.{bit_in}
+use Rattle.sweep_base.specs.declared.line_sections.Held.{Held}
 use Rattle.section_sweeps.specs.declared.group.Group.{Group}
 use Rattle.section_sweeps.specs.Table.{AreForward}
 use Rattle.section_sweeps.specs.Passing.{HasBit, HasEither, AreWithin, IsSized, AreFromBefore, AreFromBehind, ArePassedUp, ArePassedDown, AreSourcesFrom, bits_at}

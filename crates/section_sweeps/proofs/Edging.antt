@@ -10,7 +10,7 @@ use Rattle.graph_terms.specs.Edges.{edges, edges_into, edges_out_of}
 use Rattle.graph_terms.specs.Fits.{IsGraph}
 use Rattle.graph_meaning.specs.Laws.{EdgesBetweenLines}
 use Rattle.basics.proofs.ListFacts.{filter_contains, contains_filter}
-use Rattle.race_sweeps.proofs.Reaching.{no_edge}
+use Rattle.sweep_base.specs.Laws.{no_edge}
 
 pub edge_out : (g : GraphValue) (i k : ℕ) (es : List Edge) → es ≡ edges_out_of g i → k < length es → Contains (edges g) (slice_index_or es k no_edge) × ((slice_index_or es k no_edge).from ≡ i)
 edge_out g i k es is h =

@@ -5,8 +5,8 @@ use Rattle.graph_terms.specs.Graph.{GraphValue, is_acquire_of, locks}
 use Rattle.graph_terms.specs.Fits.{IsGraph}
 use Rattle.graph_terms.specs.Reservations.{Acquires}
 use Rattle.graph_terms.proofs.Public.{passes_below, release_names, acquired_lock_known}
-use Rattle.race_sweeps.specs.declared.line_sections.Held.{Held}
-use Rattle.race_sweeps.specs.Held.{acquire_in}
+use Rattle.sweep_base.specs.declared.line_sections.Held.{Held}
+use Rattle.sweep_base.specs.Held.{acquire_in}
 use Rattle.section_sweeps.specs.declared.lookups.Table.{Table}
 use Rattle.section_sweeps.specs.Found.{AreDoubted, AreFound, IsSound}
 use Rattle.section_sweeps.specs.Table.{IsTable}

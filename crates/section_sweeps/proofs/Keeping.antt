@@ -6,8 +6,8 @@ use Rattle.graph_terms.specs.Graph.{GraphValue}
 use Rattle.graph_terms.specs.Reservations.{Acquires}
 use Rattle.graph_meaning.specs.Rules.{Section}
 use Rattle.graph_terms.proofs.Public.{acquire_one}
-use Rattle.race_sweeps.specs.declared.line_sections.Held.{Held}
-use Rattle.race_sweeps.specs.Held.{IsKeeping, acquire_in}
+use Rattle.sweep_base.specs.declared.line_sections.Held.{Held}
+use Rattle.sweep_base.specs.Held.{IsKeeping, acquire_in}
 use Rattle.section_sweeps.specs.Sections.{AreHeldSoFar, IsGrown, IsKept}
 
 pub nothing_held : (g : GraphValue) (h : Held) → length h.lines.items ≡ length g.lines → ((l i : ℕ) → acquire_in h l i ≡ None) → AreHeldSoFar g h

@@ -1,4 +1,3 @@
-pub mod ReservationFacts
 pub mod ReleaseTable
 pub mod Placing
 pub mod Edging
@@ -10,3 +9,5 @@ pub mod RuleSteps
 pub mod Finishing
 pub mod SweepingDown
 pub mod Blocking
+pub mod PassedBlocks
+pub mod Public

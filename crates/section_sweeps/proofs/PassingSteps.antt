@@ -10,9 +10,9 @@ use Rattle.graph_terms.specs.Graph.{GraphValue}
 use Rattle.graph_terms.specs.Edges.{edges}
 use Rattle.graph_meaning.specs.Path.{HasPath, last, first}
 use Rattle.graph_meaning.proofs.Public.{path_snoc}
-use Rattle.race_sweeps.specs.Marks.{bit_in}
-use Rattle.race_sweeps.proofs.Bits.{bit_in-or, or_old, or_new, shifted_same, shifted_is}
-use Rattle.race_sweeps.proofs.Walking.{none_left}
+use Rattle.sweep_base.specs.Bits.{bit_in}
+use Rattle.sweep_base.proofs.Public.{bit_in-or, or_old, or_new, shifted_same, shifted_is}
+use Rattle.sweep_base.proofs.Public.{none_left}
 use Rattle.section_sweeps.specs.declared.passing.Passing.{Passing}
 use Rattle.section_sweeps.specs.Table.{ArePlaced, AreForward}
 use Rattle.section_sweeps.specs.Passing.{HasBit, HasEither, HaveNone, AreWithin, IsFromSources, IsFromTargets, AreFromBefore, AreFromBehind, AreSourcesFrom}

@@ -6,7 +6,7 @@ use Rattle.graph_terms.specs.Graph.{GraphValue}
 use Rattle.graph_terms.specs.Fits.{IsGraph}
 use Rattle.graph_meaning.specs.Laws.{EdgesBetweenLines}
 use Rattle.graph_meaning.specs.Path.{HasPath, last, first}
-use Rattle.race_sweeps.specs.Placed.{IsOrder, IsPlaced, ArePlaces}
+use Rattle.sweep_base.specs.Placed.{IsOrder, IsPlaced, ArePlaces}
 use Rattle.section_sweeps.specs.Table.{ArePlaced, AreForward}
 
 pub order_placed : (g : GraphValue) (order : List ℕ) → IsOrder g order → length order ≡ length g.lines → IsPlaced g order

@@ -10,10 +10,10 @@ use Rattle.std.proofs.lemmas.Nat.{or_lt}
 use Rattle.graph_terms.specs.Graph.{GraphValue}
 use Rattle.graph_terms.specs.Reservations.{Acquires}
 use Rattle.graph_meaning.specs.Rules.{Section}
-use Rattle.race_sweeps.specs.Marks.{bit_in}
-use Rattle.race_sweeps.specs.declared.line_sections.Held.{Held}
-use Rattle.race_sweeps.proofs.Bits.{bit_in-and, bit_in-not}
-use Rattle.race_sweeps.proofs.Walking.{none_left}
+use Rattle.sweep_base.specs.Bits.{bit_in}
+use Rattle.sweep_base.specs.declared.line_sections.Held.{Held}
+use Rattle.sweep_base.proofs.Public.{bit_in-and, bit_in-not}
+use Rattle.sweep_base.proofs.Public.{none_left}
 use Rattle.section_sweeps.specs.declared.group.Group.{Group}
 use Rattle.section_sweeps.specs.Passing.{HasBit, HasEither}
 use Rattle.section_sweeps.specs.Group.{IsSwept, IsPassed, IsPlacedAt, IsNoDeadPhase}

@@ -3,7 +3,7 @@ use Rattle.std.specs.Prelude.{◌≡◌, ℕ, ◌<◌, Bool, false, List, length
 use Rattle.graph_terms.specs.Graph.{GraphValue}
 use Rattle.graph_terms.specs.Reservations.{Acquires, Releases}
 use Rattle.graph_meaning.specs.Rules.{ReleasedAt, SectionAt, DescendsAt, Section}
-use Rattle.race_sweeps.specs.Settled.{is_noted}
+use Rattle.sweep_base.specs.Noted.{is_noted}
 use Rattle.section_sweeps.specs.declared.found_sections.Found.{Found}
 use Rattle.section_sweeps.specs.declared.found_sections.Sections.{Sections}
 use Rattle.section_sweeps.specs.declared.found_sections.Sections.TheVariants.{Kept, Doubted}

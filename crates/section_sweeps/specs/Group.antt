@@ -3,7 +3,7 @@ use Rattle.std.specs.Prelude.{◌≡◌, ℕ, ◌<◌, ◌≤◌, ◌⊎◌, Lis
 use Rattle.graph_terms.specs.Graph.{GraphValue, line_passes, is_phase, never_comes}
 use Rattle.graph_meaning.specs.Path.{HasPath}
 use Rattle.graph_terms.specs.Reservations.{Acquires, Releases}
-use Rattle.race_sweeps.specs.declared.line_sections.Held.{Held}
+use Rattle.sweep_base.specs.declared.line_sections.Held.{Held}
 use Rattle.section_sweeps.specs.declared.group.Group.{Group}
 use Rattle.section_sweeps.specs.Passing.{HasBit, HasEither, HaveNone, AreWithin, IsSized}
 use Rattle.section_sweeps.specs.Sections.{IsKept}

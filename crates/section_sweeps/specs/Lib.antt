@@ -5,3 +5,5 @@ pub mod Group
 pub mod Sections
 pub mod Blocks
 pub mod Found
+pub mod PassedBlocks
+pub mod Laws

@@ -5,7 +5,7 @@ use Rattle.graph_terms.specs.declared.verb.Edge.{Edge}
 use Rattle.graph_terms.specs.Graph.{GraphValue}
 use Rattle.graph_terms.specs.Edges.{edges}
 use Rattle.graph_meaning.specs.Path.{HasPath}
-use Rattle.race_sweeps.specs.Marks.{bit_in}
+use Rattle.sweep_base.specs.Bits.{bit_in}
 use Rattle.section_sweeps.specs.declared.passing.Passing.{Passing}
 
 -- the word of line i has bit b

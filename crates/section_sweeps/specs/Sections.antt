@@ -3,8 +3,8 @@ use Rattle.std.specs.Prelude.{◌≡◌, ℕ, length, Some, None}
 use Rattle.graph_terms.specs.Graph.{GraphValue}
 use Rattle.graph_meaning.specs.Rules.{Everywhere, EverywhereTwice, ReleasedAt, SectionAt, DescendsAt, Section}
 use Rattle.graph_terms.specs.Reservations.{Releases}
-use Rattle.race_sweeps.specs.declared.line_sections.Held.{Held}
-use Rattle.race_sweeps.specs.Held.{IsHeld, acquire_in}
+use Rattle.sweep_base.specs.declared.line_sections.Held.{Held}
+use Rattle.sweep_base.specs.Held.{IsHeld, acquire_in}
 
 -- the rules of sections hold, and this is where the lines lie
 pub record AreSections (g : GraphValue) (h : Held) : Type 0 where

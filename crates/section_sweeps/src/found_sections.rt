@@ -1,7 +1,7 @@
 //! What is found of the sections of a graph, a group of acquires after the other.
 
 ghost use Rattle.std.specs.Prelude.{◌≡◌, ◌≢◌, ℕ, ◌<◌, ◌≤◌, true, List, length, slice_index, OnOk, IfOk};
-ghost use Rattle.race_sweeps.specs.Settled.{AreStillNoted, is_noted};
+ghost use Rattle.sweep_base.specs.Noted.{AreStillNoted, is_noted};
 ghost use Rattle.section_sweeps.specs.Found.{AreFound, AreSectionsFound};
 ghost use Rattle.section_sweeps.specs.Group.{IsCleared};
 ghost use Rattle.section_sweeps.specs.Table.{IsTable};
@@ -12,8 +12,8 @@ use crate::lookups::Table;
 use graph_model::graph::Graph;
 use index_spaces::NoMemory;
 use index_spaces::room::filled;
-use race_sweeps::line_sections::Held;
 use std::alloc::Global;
+use sweep_base::line_sections::Held;
 
 /// What is found of the sections of a graph.
 #[derive(Drop)]

@@ -2,7 +2,7 @@
 
 ghost use Rattle.std.specs.Prelude.{◌≡◌, ℕ, ◌<◌, ◌≤◌, true, List, length, slice_index, IsTrue, OnOk, IfOk, IfSome};
 ghost use Rattle.graph_terms.specs.Reservations.{Acquires};
-ghost use Rattle.race_sweeps.specs.Marks.{bit_in};
+ghost use Rattle.sweep_base.specs.Bits.{bit_in};
 ghost use Rattle.section_sweeps.specs.Group.{AreGathered, AreKnownFrom, AreOpened, AreOwn, IsAcquire, IsCleared, IsNoDeadPhase, IsPassed, IsPlacedAt, IsReleaseOf, IsReleased, IsSwept};
 ghost use Rattle.section_sweeps.specs.Passing.{AreFromBefore, HasBit, IsSized};
 ghost use Rattle.section_sweeps.specs.Sections.{AreHeldSoFar, IsGrown, IsSectionKept};
@@ -10,15 +10,16 @@ ghost use Rattle.section_sweeps.specs.Table.{IsTable};
 
 use crate::kept_acquires::keep_all;
 use crate::lookups::Table;
-use crate::passing::{Passing, has_bit};
-use crate::reservations::acquired;
+use crate::passing::Passing;
 use crate::rules::{descends, is_dead_phase};
 use crate::sweep::{sweep_down, sweep_up};
 use graph_model::graph::Graph;
 use index_spaces::NoMemory;
 use index_spaces::room::push;
-use race_sweeps::line_sections::Held;
 use std::alloc::Global;
+use sweep_base::bits::has_bit;
+use sweep_base::line_sections::Held;
+use sweep_base::reservations::acquired;
 
 /// The acquires of a group: bit `b` is that of acquire `b`. Which of them have paths to a line,
 /// to which of them and to the releases of which of them it has paths.

@@ -3,15 +3,15 @@
 ghost use Rattle.std.specs.Prelude.{◌≡◌, ℕ, ◌<◌, ◌≤◌, true, length, slice_index, OnOk, IfOk};
 ghost use Rattle.graph_terms.specs.Reservations.{Acquires};
 ghost use Rattle.graph_meaning.specs.Rules.{Section};
-ghost use Rattle.race_sweeps.specs.Marks.{bit_in};
+ghost use Rattle.sweep_base.specs.Bits.{bit_in};
 ghost use Rattle.section_sweeps.specs.Sections.{AreHeldSoFar, IsGrown, IsKept};
 
-use crate::passing::has_bit;
-use crate::reservations::acquired;
 use graph_model::graph::Graph;
 use index_spaces::NoMemory;
-use race_sweeps::line_sections::Held;
 use std::alloc::Global;
+use sweep_base::bits::has_bit;
+use sweep_base::line_sections::Held;
+use sweep_base::reservations::acquired;
 
 /// No acquire is kept.
 pub fn nothing_kept(alloc: Global, graph: &Graph) -> Result<Held, NoMemory>

@@ -6,15 +6,15 @@ pub mod blocks;
 pub mod found_sections;
 mod group;
 pub mod kept_acquires;
+pub mod line_lists;
 pub mod lookups;
 pub mod passing;
 pub mod releases;
-pub mod reservations;
 pub mod rules;
 mod sweep;
 
 ghost use Rattle.std.specs.Prelude.{IfOk, IfSome};
-ghost use Rattle.race_sweeps.specs.Placed.{IsOrder};
+ghost use Rattle.sweep_base.specs.Placed.{IsOrder};
 ghost use Rattle.section_sweeps.specs.Found.{AreSectionsFound};
 
 use crate::found_sections::{Found, Sections};
@@ -22,8 +22,8 @@ use crate::lookups::Table;
 use graph_model::graph::Graph;
 use index_spaces::NoMemory;
 use index_spaces::room::filled;
-use race_sweeps::line_sections::Held;
 use std::alloc::Global;
+use sweep_base::line_sections::Held;
 
 /// Whether each acquire is released behind it, what comes before a release lies before its acquire
 /// or in its section, and a section acquires only reservations declared later; from an order in

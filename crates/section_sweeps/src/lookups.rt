@@ -1,15 +1,15 @@
 //! What is looked up of a graph: its lines by place, their places, and their releases.
 
 ghost use Rattle.std.specs.Prelude.{◌≡◌, length, IfOk};
-ghost use Rattle.race_sweeps.specs.Placed.{IsOrder, IsPlaced, ArePlaces};
+ghost use Rattle.sweep_base.specs.Placed.{IsOrder};
 ghost use Rattle.section_sweeps.specs.Table.{IsTable};
 
 use crate::releases::releases;
 use graph_meaning::laws::edges_between_lines;
 use graph_model::graph::Graph;
 use index_spaces::NoMemory;
-use index_spaces::room::{filled, push};
 use std::alloc::Global;
+use sweep_base::places::{copied, places};
 
 /// The line at each place, the place of each line, and the release of each acquire.
 #[derive(Drop)]
@@ -34,28 +34,4 @@ impl Table {
             releases: releases(alloc, graph)?,
         })
     }
-}
-
-/// The lines of an order.
-fn copied(alloc: Global, order: &[u32]) -> Result<Vec<u32>, NoMemory>
-    ensures { IfOk result (λ v. v.items ≡ order.now) }
-{
-    let mut lines = Vec::new(alloc);
-    for line in order {
-        push(&mut lines, *line)?;
-    }
-    Ok(lines)
-}
-
-/// The place of each line.
-fn places(alloc: Global, graph: &Graph, order: &[u32]) -> Result<Vec<u32>, NoMemory>
-    requires { IsPlaced graph.now order.now }
-    ensures { IfOk result (λ v. ArePlaces order.now v.items) }
-{
-    let lines = graph.lines();
-    let mut places = filled(alloc, 0, lines as usize)?;
-    for place in 0..lines {
-        places[order[place as usize] as usize] = place;
-    }
-    Ok(places)
 }

@@ -2,7 +2,6 @@
 
 ghost use Rattle.std.specs.Prelude.{◌≡◌, ℕ, ◌*◌, ◌%◌, ◌^◌, ◌<◌, ◌≤◌, length, slice_index, slice_set, IfOk};
 ghost use Rattle.std.specs.Int.RustNames.{bit_or};
-ghost use Rattle.race_sweeps.specs.Marks.{bit_in};
 ghost use Rattle.section_sweeps.specs.Passing.{AreWithin, HaveNone, IsSized, IsFromSources, IsFromTargets, bits_at};
 ghost use Rattle.section_sweeps.specs.Table.{IsTable};
 
@@ -111,12 +110,4 @@ impl Passing {
             self.passed[line as usize] = 0;
         }
     }
-}
-
-/// Whether a word has this bit.
-pub fn has_bit(word: u64, bit: u32) -> bool
-    requires { bit < 64 }
-    ensures { result ≡ bit_in word bit }
-{
-    (word >> bit) & 1 == 1
 }

@@ -3,11 +3,11 @@
 ghost use Rattle.std.specs.Prelude.{◌≡◌, ◌<◌, length, None, IfOk};
 ghost use Rattle.section_sweeps.specs.Releases.{AreReleases};
 
-use crate::reservations::released;
 use graph_model::graph::Graph;
 use index_spaces::NoMemory;
 use index_spaces::room::filled;
 use std::alloc::Global;
+use sweep_base::reservations::released;
 
 /// The release of each line that is an acquire and has one.
 pub fn releases(alloc: Global, graph: &Graph) -> Result<Vec<Option<u32>>, NoMemory>

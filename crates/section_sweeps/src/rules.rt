@@ -3,13 +3,13 @@
 ghost use Rattle.std.specs.Prelude.{◌≡◌, ◌⊎◌, ℕ, ◌<◌, ◌≤◌, true, false, length, slice_index, IsTrue};
 ghost use Rattle.graph_terms.specs.Graph.{line_passes, is_phase};
 ghost use Rattle.graph_terms.specs.Reservations.{Acquires};
-ghost use Rattle.race_sweeps.specs.Marks.{bit_in};
+ghost use Rattle.sweep_base.specs.Bits.{bit_in};
 ghost use Rattle.section_sweeps.specs.Group.{IsNoDeadPhase};
 
-use crate::passing::has_bit;
-use crate::reservations::acquired;
 use graph_model::graph::Graph;
 use graph_terms::verb::Verb;
+use sweep_base::bits::has_bit;
+use sweep_base::reservations::acquired;
 
 /// Whether a line is a phase that never comes.
 pub(crate) fn is_dead_phase(graph: &Graph, line: u32) -> bool

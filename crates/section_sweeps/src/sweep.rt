@@ -3,7 +3,7 @@
 ghost use Rattle.std.specs.Prelude.{◌≡◌, ℕ, ◌<◌, ◌≤◌, length, Contains, slice_index};
 ghost use Rattle.graph_terms.specs.declared.verb.Edge.{Edge};
 ghost use Rattle.graph_terms.specs.Edges.{edges};
-ghost use Rattle.race_sweeps.specs.Marks.{bit_in};
+ghost use Rattle.sweep_base.specs.Bits.{bit_in};
 ghost use Rattle.section_sweeps.specs.Passing.{HasBit, HasEither, HaveNone, AreWithin, IsSized, AreFromBefore, AreFromBehind, ArePassedUp, ArePassedDown, AreSourcesFrom};
 ghost use Rattle.section_sweeps.specs.Table.{IsTable};
 

@@ -1,7 +1,7 @@
 use Rattle.std.proofs.Common.{inl, length, arith}
 use Rattle.graph_meaning.specs.Rules.{DescendsAt}
 use Rattle.race_check.proofs.BeyondLines.{descends_beyond}
-use Rattle.race_check.proofs.BlockSteps.{blocks_fail, blocks_more, pairs_hold, some_of, none_of}
+use Rattle.sweep_base.proofs.Public.{blocks_fail, blocks_more, pairs_hold, some_of, none_of}
 use Rattle.race_check.proofs.descends.first_climbing.Goals as goal
 
 pub returns-in-Some : goal.returns-in-Some

@@ -2,8 +2,8 @@ use Rattle.std.proofs.Common.{◌≡◌, ◌+◌, ℕ, length, arith, sym, subst
 use Rattle.graph_meaning.specs.Rules.{DescendsAt}
 use Rattle.race_check.proofs.BeyondLines.{descends_beyond}
 use Rattle.race_check.proofs.Doubting.{descends_sure}
-use Rattle.race_check.proofs.BlockSteps.{least_none, least_keep, least_take, least_fails, least_holds}
-use Rattle.race_check.specs.Blocks.{IsLeast}
+use Rattle.sweep_base.proofs.Public.{least_none, least_keep, least_take, least_fails, least_holds}
+use Rattle.sweep_base.specs.BlockRules.{IsLeast}
 use Rattle.race_check.proofs.descends.first_climbing_in.Goals as goal
 use Rattle.race_check.proofs.descends.first_climbing_in.Goals.{in-Some, in_default}
 

@@ -1,5 +1,5 @@
 use Rattle.graph_meaning.specs.Rules.{DescendsAt}
-use Rattle.race_check.specs.Blocks.{IsLeast}
+use Rattle.sweep_base.specs.BlockRules.{IsLeast}
 use Rattle.race_check.proofs.descends.first_climbing_in.Given as goal
 
 abbrev pub invariant-loop-line : goal.invariant-loop-line

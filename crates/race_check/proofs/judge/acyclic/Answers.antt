@@ -1,4 +1,4 @@
-use Rattle.race_check.proofs.BlockSteps.{none_of}
+use Rattle.sweep_base.proofs.Public.{none_of}
 use Rattle.race_check.proofs.Placing.{order_placed, order_full}
 use Rattle.race_check.proofs.judge.acyclic.Goals as goal
 

@@ -1,4 +1,4 @@
-use Rattle.race_check.proofs.ExemptSummary.{sections_alone}
+use Rattle.race_pairs.proofs.Public.{sections_alone}
 use Rattle.race_check.proofs.judge.no_races.Goals as goal
 
 pub first_race-requires-clause-alone : goal.first_race-requires-clause-alone

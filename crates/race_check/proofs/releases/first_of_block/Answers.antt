@@ -1,6 +1,6 @@
 use Rattle.std.proofs.Common.{◌≡◌, length, sym, subst, arith}
-use Rattle.race_check.specs.Blocks.{AreListed}
-use Rattle.race_check.proofs.BlockSteps.{passed_on, few_listed, lines_known}
+use Rattle.section_sweeps.specs.PassedBlocks.{AreListed}
+use Rattle.section_sweeps.proofs.Public.{passed_on, few_listed, lines_known}
 use Rattle.race_check.proofs.Doubting.{released_sure}
 use Rattle.race_check.proofs.releases.first_of_block.Goals as goal
 

@@ -1,7 +1,8 @@
 use Rattle.std.proofs.Common.{arith}
 use Rattle.graph_meaning.specs.Rules.{ReleasedAt}
 use Rattle.race_check.proofs.BeyondLines.{released_beyond}
-use Rattle.race_check.proofs.BlockSteps.{first_found, lines_more, some_of, none_of}
+use Rattle.sweep_base.proofs.Public.{some_of, none_of}
+use Rattle.race_check.proofs.RuleSteps.{first_found, lines_more}
 use Rattle.race_check.proofs.RuleSteps.{everywhere_by}
 use Rattle.race_check.proofs.releases.first_unreleased.Goals as goal
 

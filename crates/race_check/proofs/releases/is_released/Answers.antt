@@ -2,7 +2,7 @@ use Rattle.std.proofs.Common.{sym, subst, ap, ◌∙◌, arith}
 use Rattle.std.specs.Prelude.{None}
 use Rattle.std.proofs.lemmas.List.{get_or_read}
 use Rattle.graph_meaning.specs.Path.{HasPath}
-use Rattle.race_sweeps.specs.Marks.{bit_in}
+use Rattle.sweep_base.specs.Bits.{bit_in}
 use Rattle.race_check.proofs.RuleSteps.{released_none, released_by, released_missing, release_known}
 use Rattle.race_check.proofs.releases.is_released.Goals as goal
 

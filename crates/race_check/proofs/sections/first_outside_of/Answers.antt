@@ -2,8 +2,8 @@ use Rattle.std.proofs.Common.{◌≡◌, ◌+◌, ℕ, length, arith, sym, subst
 use Rattle.graph_meaning.specs.Rules.{SectionAt}
 use Rattle.race_check.proofs.BeyondLines.{section_beyond}
 use Rattle.race_check.proofs.Doubting.{sections_sure}
-use Rattle.race_check.proofs.BlockSteps.{least_none, least_keep, least_take, least_fails, least_holds}
-use Rattle.race_check.specs.Blocks.{IsLeast}
+use Rattle.sweep_base.proofs.Public.{least_none, least_keep, least_take, least_fails, least_holds}
+use Rattle.sweep_base.specs.BlockRules.{IsLeast}
 use Rattle.race_check.proofs.Insides.{lowest_fails, lowest_holds}
 use Rattle.race_check.proofs.sections.first_outside_of.Goals as goal
 use Rattle.race_check.proofs.sections.first_outside_of.Goals.{in-Some, in_default}

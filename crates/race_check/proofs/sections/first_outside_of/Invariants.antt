@@ -1,5 +1,5 @@
 use Rattle.graph_meaning.specs.Rules.{SectionAt}
-use Rattle.race_check.specs.Blocks.{IsLeast}
+use Rattle.sweep_base.specs.BlockRules.{IsLeast}
 use Rattle.race_check.proofs.sections.first_outside_of.Given as goal
 
 abbrev pub invariant-loop-line : goal.invariant-loop-line

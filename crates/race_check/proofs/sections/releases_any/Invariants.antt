@@ -1,6 +1,6 @@
 use Rattle.std.proofs.Common.{◌≡◌, ℕ, ◌<◌, ◌≤◌, false}
 use Rattle.graph_terms.specs.Reservations.{Releases}
-use Rattle.race_sweeps.specs.Settled.{is_noted}
+use Rattle.sweep_base.specs.Noted.{is_noted}
 use Rattle.race_check.proofs.sections.releases_any.Given as goal
 
 abbrev pub invariant-loop-line : goal.invariant-loop-line

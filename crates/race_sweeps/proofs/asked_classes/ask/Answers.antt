@@ -1,7 +1,7 @@
 use Rattle.std.proofs.Common.{◌<◌, length, max, ap, sym, ◌∙◌, arith}
 use Rattle.std.specs.Prelude.{None}
 use Rattle.std.proofs.lemmas.List.{get_or_read}
-use Rattle.race_sweeps.specs.Classes.{kept_at, place_at}
+use Rattle.conflict_classes.specs.Classes.{kept_at, place_at}
 use Rattle.race_sweeps.proofs.Asking.{asked_from, last_listed, member_low}
 use Rattle.race_sweeps.proofs.asked_classes.ask.Goals as goal
 

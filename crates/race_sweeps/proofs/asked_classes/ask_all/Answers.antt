@@ -1,7 +1,7 @@
 use Rattle.std.proofs.Common.{inl, inr, arith, subst}
 use Rattle.std.proofs.lemmas.List.Elements.{Contains-get_or}
 use Rattle.race_sweeps.specs.Scan.{IsMarkAsked}
-use Rattle.race_sweeps.proofs.Lists.{take_cases, take_whole}
+use Rattle.sweep_base.proofs.Public.{take_cases, take_whole}
 use Rattle.race_sweeps.proofs.Asking.{mark_kept}
 use Rattle.race_sweeps.proofs.asked_classes.ask_all.Goals as goal
 

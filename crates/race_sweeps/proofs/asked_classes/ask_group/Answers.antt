@@ -2,7 +2,7 @@ use Rattle.std.proofs.Common.{inl, inr, length, sym, ◌∙◌, subst, arith}
 use Rattle.std.specs.Prelude.{slice_index}
 use Rattle.race_sweeps.specs.Scan.{IsAsked}
 use Rattle.race_sweeps.proofs.Hardening.{near_read}
-use Rattle.race_sweeps.proofs.Lists.{take_cases}
+use Rattle.sweep_base.proofs.Public.{take_cases}
 use Rattle.race_sweeps.proofs.Asking.{asked_kept, near_asked}
 use Rattle.race_sweeps.proofs.asked_classes.ask_group.Goals as goal
 

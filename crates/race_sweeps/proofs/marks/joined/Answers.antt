@@ -1,4 +1,4 @@
-use Rattle.race_sweeps.proofs.Bits.{or_old, or_new}
+use Rattle.sweep_base.proofs.Public.{or_old, or_new}
 use Rattle.race_sweeps.proofs.marks.joined.Goals as goal
 
 pub returns-clause-old : goal.returns-clause-old

@@ -1,5 +1,5 @@
 use Rattle.std.proofs.Common.{◌-◌, arith}
-use Rattle.race_sweeps.proofs.Bits.{later_bit, all_bits}
+use Rattle.race_sweeps.proofs.SliceBits.{later_bit, all_bits}
 use Rattle.race_sweeps.proofs.reach.later.Goals as goal
 
 pub returns-then-place-first : goal.returns-then-place-first

@@ -1,5 +1,5 @@
 use Rattle.std.proofs.Common.{◌-◌, arith}
-use Rattle.race_sweeps.proofs.Bits.{own_is}
+use Rattle.race_sweeps.proofs.SliceBits.{own_is}
 use Rattle.race_sweeps.proofs.reach.own_bit.Goals as goal
 
 pub returns : goal.returns

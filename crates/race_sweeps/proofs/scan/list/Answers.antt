@@ -3,7 +3,7 @@ use Rattle.std.specs.Prelude.{Contains, slice_get, slice_index}
 use Rattle.std.proofs.lemmas.Bool.{cases_lt}
 use Rattle.std.proofs.lemmas.List.{get_or_read}
 use Rattle.basics.proofs.ListFacts.{contains_none}
-use Rattle.race_sweeps.specs.Classes.{place_at}
+use Rattle.conflict_classes.specs.Classes.{place_at}
 use Rattle.race_sweeps.specs.Marks.{IsMarked}
 use Rattle.race_sweeps.specs.ScanState.{AreListed, AreGrouped}
 use Rattle.race_sweeps.proofs.Listed.{begins_ascend}

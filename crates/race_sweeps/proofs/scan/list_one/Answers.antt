@@ -2,9 +2,9 @@ use Rattle.std.proofs.Common.{◌≡◌, ◌-◌, ◌<◌, length, arith, refl, 
 use Rattle.std.specs.Prelude.{Some, slice_get, slice_index}
 use Rattle.std.proofs.lemmas.List.{get_or_read}
 use Rattle.std.proofs.lemmas.Option.{same_Some, slice_get_read}
-use Rattle.race_sweeps.specs.Classes.{place_at}
+use Rattle.conflict_classes.specs.Classes.{place_at}
 use Rattle.race_sweeps.specs.Marks.{IsMarked}
-use Rattle.race_sweeps.proofs.Bits.{shifted_same}
+use Rattle.sweep_base.proofs.Public.{shifted_same}
 use Rattle.race_sweeps.proofs.scan.list_one.Goals as goal
 
 pub overflow_shl-bit : goal.overflow_shl-bit

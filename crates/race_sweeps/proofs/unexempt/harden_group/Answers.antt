@@ -2,7 +2,7 @@ use Rattle.std.proofs.Common.{◌≡◌, ◌<◌, ◌≤◌, length, refl, sym, 
 use Rattle.std.specs.Prelude.{None, slice_index}
 use Rattle.std.proofs.lemmas.List.{get_or_read}
 use Rattle.std.proofs.lemmas.Option.{slice_get_read}
-use Rattle.race_sweeps.specs.Classes.{kept_at, place_at}
+use Rattle.conflict_classes.specs.Classes.{kept_at, place_at}
 use Rattle.race_sweeps.specs.Scan.{HasHard, IsHard}
 use Rattle.race_sweeps.proofs.Listed.{last_found, member_hard}
 use Rattle.race_sweeps.proofs.unexempt.harden_group.Goals as goal

@@ -1,7 +1,7 @@
 use Rattle.std.proofs.Common.{◌+◌, subst}
 use Rattle.std.specs.Prelude.{slice_index}
 use Rattle.std.proofs.lemmas.List.{get_or_read}
-use Rattle.race_sweeps.specs.Settled.{IsSettledOrNoted}
+use Rattle.race_sweeps.specs.Enough.{IsSettledOrNoted}
 use Rattle.race_sweeps.proofs.walk.note.Goals as goal
 
 pub returns-clause-settled : goal.returns-clause-settled

@@ -1,8 +1,8 @@
 use Rattle.std.proofs.Common.{◌≡◌, ◌+◌, ◌<◌, true, length, inl, inr, subst, arith}
 use Rattle.std.specs.Prelude.{slice_index}
 use Rattle.std.proofs.lemmas.Bool.{cases_lt}
-use Rattle.race_sweeps.specs.Marks.{bit_in}
-use Rattle.race_sweeps.specs.Settled.{IsSettledOrNoted}
+use Rattle.sweep_base.specs.Bits.{bit_in}
+use Rattle.race_sweeps.specs.Enough.{IsSettledOrNoted}
 use Rattle.race_sweeps.proofs.Noting.{settled_still}
 use Rattle.race_sweeps.proofs.walk.note_all.Goals as goal
 

@@ -1,7 +1,8 @@
 use Rattle.std.proofs.Common.{◌≡◌, ℕ, ◌+◌, ◌<◌, true, length}
 use Rattle.std.specs.Prelude.{slice_index}
-use Rattle.race_sweeps.specs.Marks.{bit_in}
-use Rattle.race_sweeps.specs.Settled.{AreStillNoted, IsSettledOrNoted}
+use Rattle.sweep_base.specs.Bits.{bit_in}
+use Rattle.sweep_base.specs.Noted.{AreStillNoted}
+use Rattle.race_sweeps.specs.Enough.{IsSettledOrNoted}
 use Rattle.race_sweeps.proofs.walk.note_all.Given as goal
 
 abbrev pub invariant-loop-bit : goal.invariant-loop-bit

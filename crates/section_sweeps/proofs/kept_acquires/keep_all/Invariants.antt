@@ -1,7 +1,7 @@
 use Rattle.std.proofs.Common.{◌≡◌, ℕ, ◌<◌, true}
 use Rattle.std.specs.Prelude.{slice_index}
 use Rattle.graph_terms.specs.Reservations.{Acquires}
-use Rattle.race_sweeps.specs.Marks.{bit_in}
+use Rattle.sweep_base.specs.Bits.{bit_in}
 use Rattle.section_sweeps.specs.Sections.{AreHeldSoFar, IsGrown, IsKept}
 use Rattle.section_sweeps.proofs.kept_acquires.keep_all.Given as goal
 

@@ -3,7 +3,7 @@ use Rattle.std.specs.Prelude.{slice_index, ◌≡◌, ◌<◌}
 use Rattle.std.proofs.lemmas.Bool.{cases_lt, true≢false}
 use Rattle.graph_terms.specs.Reservations.{Acquires}
 use Rattle.graph_terms.proofs.Public.{acquire_one}
-use Rattle.race_sweeps.specs.Marks.{bit_in}
+use Rattle.sweep_base.specs.Bits.{bit_in}
 use Rattle.section_sweeps.proofs.rules.descends.Goals as goal
 use Rattle.section_sweeps.proofs.rules.descends.Goals.{else-has_bit-via-then-has_bit+else-not-acquires_before, else-has_bit-via-else-has_bit}
 

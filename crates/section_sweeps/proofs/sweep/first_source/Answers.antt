@@ -3,8 +3,9 @@ use Rattle.std.specs.Prelude.{slice_index}
 use Rattle.std.specs.List.{slice_index_or}
 use Rattle.std.proofs.lemmas.List.{get_or_read}
 use Rattle.graph_terms.specs.declared.verb.Edge.{Edge}
-use Rattle.race_sweeps.proofs.Lists.{take_cases, take_whole}
-use Rattle.race_sweeps.proofs.Reaching.{no_edge, edge_in}
+use Rattle.sweep_base.proofs.Public.{take_cases, take_whole}
+use Rattle.sweep_base.specs.Laws.{no_edge}
+use Rattle.sweep_base.proofs.Public.{edge_in}
 use Rattle.section_sweeps.proofs.Edging.{listed_into}
 use Rattle.section_sweeps.proofs.sweep.first_source.Goals as goal
 

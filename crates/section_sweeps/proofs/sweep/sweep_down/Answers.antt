@@ -1,7 +1,7 @@
 use Rattle.std.proofs.Common.{◌+◌, ◌-◌, ◌<◌, length, refl, sym, ap, ◌∙◌, subst, arith}
 use Rattle.std.specs.Prelude.{◌≡◌}
 use Rattle.std.proofs.lemmas.List.{get_or_read}
-use Rattle.race_sweeps.specs.Marks.{bit_in}
+use Rattle.sweep_base.specs.Bits.{bit_in}
 use Rattle.section_sweeps.proofs.PassingSteps.{down_all, either_own}
 use Rattle.section_sweeps.proofs.RuleSteps.{none_outside}
 use Rattle.section_sweeps.proofs.SweepingDown.{AreSweptDown, IsPassing, down_none, down_more}

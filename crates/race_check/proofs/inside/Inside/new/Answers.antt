@@ -1,7 +1,8 @@
 use Rattle.std.proofs.Common.{◌≡◌, ◌+◌, ◌<◌, ℕ, length, sym, subst, arith}
 use Rattle.graph_terms.specs.Reservations.{Releases}
-use Rattle.race_check.specs.Blocks.{AreListed}
-use Rattle.race_check.proofs.BlockSteps.{passed_on, passed_back, lines_known, releases_known, few_listed}
+use Rattle.section_sweeps.specs.PassedBlocks.{AreListed}
+use Rattle.section_sweeps.proofs.Public.{passed_on, passed_back, lines_known, few_listed}
+use Rattle.race_check.proofs.RuleFacts.{releases_known}
 use Rattle.race_check.proofs.inside.Inside.new.Goals as goal
 
 pub passed_forward-requires-clause-few : goal.passed_forward-requires-clause-few

@@ -1,8 +1,8 @@
 use Rattle.std.proofs.Common.{refl, sym, ap, ◌∙◌}
 use Rattle.std.proofs.lemmas.Bool.{true≢false, and_parts, and_from}
 use Rattle.graph_terms.specs.Graph.{line_passes, is_phase, never_comes}
-use Rattle.race_sweeps.specs.Marks.{bit_in}
-use Rattle.race_sweeps.proofs.Walking.{none_left}
+use Rattle.sweep_base.specs.Bits.{bit_in}
+use Rattle.sweep_base.proofs.Public.{none_left}
 use Rattle.race_check.proofs.sections.Sides.entered.Goals as goal
 
 pub returns-then-is_never_phase-clause-is : goal.returns-then-is_never_phase-clause-is

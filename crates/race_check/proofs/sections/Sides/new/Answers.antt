@@ -1,8 +1,9 @@
 use Rattle.std.proofs.Common.{◌+◌, ◌<◌, ℕ, length, sym, subst, arith}
 use Rattle.graph_terms.specs.Reservations.{Releases}
-use Rattle.race_check.specs.Blocks.{AreListed}
-use Rattle.race_check.specs.Inside.{IsRelease}
-use Rattle.race_check.proofs.BlockSteps.{passed_on, passed_back, acquires_known, few_listed, releases_known}
+use Rattle.section_sweeps.specs.PassedBlocks.{AreListed}
+use Rattle.section_sweeps.specs.PassedBlocks.{IsRelease}
+use Rattle.section_sweeps.proofs.Public.{passed_on, passed_back, few_listed}
+use Rattle.race_check.proofs.RuleFacts.{acquires_known, releases_known}
 use Rattle.race_check.proofs.sections.Sides.new.Goals as goal
 
 pub passed_back-requires-clause-few : goal.passed_back-requires-clause-few

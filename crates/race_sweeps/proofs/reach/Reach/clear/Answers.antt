@@ -3,7 +3,7 @@ use Rattle.std.specs.Prelude.{slice_index}
 use Rattle.std.proofs.lemmas.Bool.{cases_lt, true≢false}
 use Rattle.std.proofs.lemmas.List.{get_or_read}
 use Rattle.race_sweeps.specs.Reach.{IsBounded}
-use Rattle.race_sweeps.specs.Settled.{is_noted}
+use Rattle.sweep_base.specs.Noted.{is_noted}
 use Rattle.race_sweeps.specs.declared.reach.Reach.{Reach}
 use Rattle.race_sweeps.proofs.reach.Reach.clear.Goals as goal
 use Rattle.race_sweeps.proofs.reach.Reach.clear.Goals.{then-index, else-index}

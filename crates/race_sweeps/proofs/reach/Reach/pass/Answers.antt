@@ -4,7 +4,9 @@ use Rattle.std.specs.List.{slice_index_or}
 use Rattle.std.proofs.lemmas.List.{get_or_read}
 use Rattle.race_sweeps.specs.Reach.{IsBounded, IsReach}
 use Rattle.race_sweeps.specs.declared.reach.Reach.{Reach}
-use Rattle.race_sweeps.proofs.Reaching.{no_edge, edge_in, source_known, reach_more}
+use Rattle.sweep_base.specs.Laws.{no_edge}
+use Rattle.sweep_base.proofs.Public.{edge_in, source_known}
+use Rattle.race_sweeps.proofs.Reaching.{reach_more}
 use Rattle.race_sweeps.proofs.reach.Reach.pass.Goals as goal
 use Rattle.race_sweeps.proofs.reach.Reach.pass.Goals.{then-source-stop, else-source-stop}
 

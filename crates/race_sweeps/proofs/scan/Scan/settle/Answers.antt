@@ -1,4 +1,5 @@
-use Rattle.race_sweeps.proofs.Walking.{settled_by, none_left}
+use Rattle.race_sweeps.proofs.Walking.{settled_by}
+use Rattle.sweep_base.proofs.Public.{none_left}
 use Rattle.race_sweeps.proofs.scan.Scan.settle.Goals as goal
 
 pub returns-then-left-eq0-clause-settled : goal.returns-then-left-eq0-clause-settled

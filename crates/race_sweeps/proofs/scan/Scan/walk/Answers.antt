@@ -1,7 +1,7 @@
 use Rattle.std.proofs.Common.{◌≡◌, ◌<◌, ◌≤◌, length, sym, ap, subst, arith}
 use Rattle.std.specs.Prelude.{None, slice_index}
 use Rattle.std.proofs.lemmas.List.{get_or_read}
-use Rattle.race_sweeps.specs.Classes.{place_at}
+use Rattle.conflict_classes.specs.Classes.{place_at}
 use Rattle.race_sweeps.specs.Members.{IsLastBelow}
 use Rattle.race_sweeps.specs.Scan.{AreSettledWith, IsWalked}
 use Rattle.race_sweeps.proofs.Walking.{rest_of, walk_begins, walk_stops, walk_ends, walk_more, rest_less, found_low, found_class}

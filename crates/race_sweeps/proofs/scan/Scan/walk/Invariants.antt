@@ -1,5 +1,5 @@
 use Rattle.std.proofs.Common.{◌≡◌, length}
-use Rattle.race_sweeps.specs.Settled.{AreStillNoted}
+use Rattle.sweep_base.specs.Noted.{AreStillNoted}
 use Rattle.race_sweeps.proofs.Walking.{IsWalking, rest_of}
 use Rattle.race_sweeps.proofs.scan.Scan.walk.Given as goal
 

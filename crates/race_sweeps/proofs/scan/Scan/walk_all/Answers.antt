@@ -3,7 +3,7 @@ use Rattle.std.specs.Prelude.{Contains}
 use Rattle.std.specs.List.{slice_index_or}
 use Rattle.std.proofs.lemmas.List.Elements.{Contains-get_or}
 use Rattle.race_sweeps.specs.Scan.{IsWalked}
-use Rattle.race_sweeps.proofs.Lists.{take_cases, take_whole}
+use Rattle.sweep_base.proofs.Public.{take_cases, take_whole}
 use Rattle.race_sweeps.proofs.Noting.{walked_still}
 use Rattle.race_sweeps.proofs.scan.Scan.walk_all.Goals as goal
 

@@ -3,7 +3,7 @@ use Rattle.std.specs.Prelude.{Contains}
 use Rattle.race_sweeps.specs.declared.marks.Mark.{Mark}
 use Rattle.race_sweeps.specs.Scan.{IsWalked}
 use Rattle.race_sweeps.specs.ScanState.{AreListed}
-use Rattle.race_sweeps.specs.Settled.{AreStillNoted}
+use Rattle.sweep_base.specs.Noted.{AreStillNoted}
 use Rattle.race_sweeps.proofs.scan.Scan.walk_all.Given as goal
 
 abbrev pub invariant-loop-ask : goal.invariant-loop-ask

@@ -1,6 +1,6 @@
 use Rattle.std.proofs.Common.{◌≡◌, ℕ, ◌<◌, true, length}
 use Rattle.std.specs.Prelude.{slice_index}
-use Rattle.race_sweeps.specs.Settled.{AreStillNoted, is_noted}
+use Rattle.sweep_base.specs.Noted.{AreStillNoted, is_noted}
 use Rattle.section_sweeps.proofs.found_sections.Found.doubt.Given as goal
 
 abbrev pub invariant-loop-bit : goal.invariant-loop-bit

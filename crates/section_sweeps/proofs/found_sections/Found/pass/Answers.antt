@@ -2,7 +2,7 @@ use Rattle.std.proofs.Common.{◌≡◌, ℕ, ◌<◌, true, inl, inr, length, s
 use Rattle.std.specs.Prelude.{slice_index, Vec}
 use Rattle.std.specs.Global.{Global}
 use Rattle.std.proofs.lemmas.Bool.{cases_lt, cases_Bool, true≢false}
-use Rattle.race_sweeps.specs.Settled.{is_noted}
+use Rattle.sweep_base.specs.Noted.{is_noted}
 use Rattle.section_sweeps.specs.Found.{IsSound}
 use Rattle.section_sweeps.specs.Sections.{IsSectionKept}
 use Rattle.section_sweeps.proofs.Finishing.{sound_of}

@@ -2,7 +2,7 @@ use Rattle.std.proofs.Common.{inl, inr, length, sym, ap, ◌∙◌, subst, arith
 use Rattle.std.specs.Prelude.{None, ◌≡◌}
 use Rattle.std.proofs.lemmas.List.{get_or_read}
 use Rattle.std.proofs.lemmas.Bool.{cases_lt}
-use Rattle.race_sweeps.specs.Marks.{bit_in}
+use Rattle.sweep_base.specs.Bits.{bit_in}
 use Rattle.section_sweeps.specs.Group.{IsReleased}
 use Rattle.section_sweeps.proofs.Grouping.{released_by, release_read}
 use Rattle.section_sweeps.proofs.group.Group.are_released.Goals as goal

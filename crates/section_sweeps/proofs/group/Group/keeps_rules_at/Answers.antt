@@ -3,8 +3,8 @@ use Rattle.std.specs.Prelude.{slice_index}
 use Rattle.section_sweeps.specs.Passing.{HasBit}
 use Rattle.graph_terms.specs.Reservations.{Acquires}
 use Rattle.graph_meaning.specs.Rules.{Section}
-use Rattle.race_sweeps.specs.Marks.{bit_in}
-use Rattle.race_sweeps.proofs.Walking.{none_left}
+use Rattle.sweep_base.specs.Bits.{bit_in}
+use Rattle.sweep_base.proofs.Public.{none_left}
 use Rattle.section_sweeps.proofs.RuleSteps.{inside_parts, inside_from, inside_section}
 use Rattle.section_sweeps.proofs.group.Group.keeps_rules_at.Goals as goal
 

@@ -1,5 +1,5 @@
 use Rattle.std.proofs.Common.{sym, ◌∙◌, ap}
-use Rattle.race_sweeps.specs.Marks.{bit_in}
+use Rattle.sweep_base.specs.Bits.{bit_in}
 use Rattle.section_sweeps.proofs.RuleSteps.{placed_by}
 use Rattle.section_sweeps.proofs.group.Group.outside.Goals as goal
 

@@ -1,10 +1,10 @@
 use Rattle.std.proofs.Common.{inl, inr, refl, sym, ap, ◌∙◌, subst, arith}
 use Rattle.std.specs.List.{slice_index_or}
 use Rattle.graph_terms.specs.declared.verb.Edge.{Edge}
-use Rattle.race_sweeps.specs.Marks.{bit_in}
-use Rattle.race_sweeps.proofs.Bits.{or_old, or_new}
-use Rattle.race_sweeps.proofs.Lists.{take_cases, take_whole}
-use Rattle.race_sweeps.proofs.Reaching.{no_edge}
+use Rattle.sweep_base.specs.Bits.{bit_in}
+use Rattle.sweep_base.proofs.Public.{or_old, or_new}
+use Rattle.sweep_base.proofs.Public.{take_cases, take_whole}
+use Rattle.sweep_base.specs.Laws.{no_edge}
 use Rattle.section_sweeps.proofs.Edging.{edge_out, target_known, listed_out}
 use Rattle.section_sweeps.specs.Passing.{HasEither}
 use Rattle.section_sweeps.proofs.PassingSteps.{or_split}

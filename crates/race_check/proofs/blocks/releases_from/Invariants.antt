@@ -1,6 +1,0 @@
-use Rattle.graph_terms.specs.Reservations.{Releases}
-use Rattle.race_check.specs.Blocks.{AreListed}
-use Rattle.race_check.proofs.blocks.releases_from.Given as goal
-
-abbrev pub invariant-loop-line : goal.invariant-loop-line
-invariant-loop-line l = record { listed : AreListed (λ q r. Releases l.graph r q) l.first l.line l.of.items }

@@ -1,6 +1,0 @@
-use Rattle.race_sweeps.specs.Clash.{Clash}
-use Rattle.race_sweeps.proofs.AccessSteps.{NoneAmong}
-use Rattle.race_check.proofs.conflicts.clashes_with.Given as goal
-
-abbrev pub invariant-loop-other : goal.invariant-loop-other
-invariant-loop-other l = NoneAmong (Clash l.graph l.commuting l.one) l.others l.other-index

@@ -1,8 +1,0 @@
-use Rattle.std.specs.Prelude.{Contains}
-use Rattle.graph_terms.specs.declared.verb.Access.{Access}
-use Rattle.race_sweeps.specs.Clash.{Clash}
-use Rattle.race_sweeps.proofs.AccessSteps.{NoneAmong}
-use Rattle.race_check.proofs.conflicts.some_clash.Given as goal
-
-abbrev pub invariant-loop-one : goal.invariant-loop-one
-invariant-loop-one l = NoneAmong (λ a. (b : Access) × Contains l.others b × Clash l.graph l.commuting a b) l.ones l.one-index

@@ -1,5 +1,0 @@
-use Rattle.race_check.specs.Sweep.{IsSwept}
-use Rattle.race_check.proofs.need.most_open.Given as goal
-
-abbrev pub invariant-loop-line : goal.invariant-loop-line
-invariant-loop-line l = IsSwept l.tally l.count l.most l.line

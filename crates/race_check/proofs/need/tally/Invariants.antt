@@ -1,6 +1,0 @@
-use Rattle.std.proofs.Common.{◌≡◌, ◌+◌, length}
-use Rattle.race_check.specs.Sweep.{IsTally}
-use Rattle.race_check.proofs.need.tally.Given as goal
-
-abbrev pub invariant-loop-high : goal.invariant-loop-high
-invariant-loop-high l = record { room : length l.tally.items ≡ length l.highs + 2; tallied : IsTally l.tally.items l.highs (length l.highs + 1) l.high-index }

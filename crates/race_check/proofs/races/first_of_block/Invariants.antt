@@ -1,6 +1,0 @@
-use Rattle.graph_meaning.specs.Rules.{RaceAt}
-use Rattle.race_check.specs.Blocks.{IsLeast}
-use Rattle.race_check.proofs.races.first_of_block.Given as goal
-
-abbrev pub invariant-loop-line : goal.invariant-loop-line
-invariant-loop-line l = record { least : IsLeast (RaceAt l.graph) l.first l.limit l.found l.line }

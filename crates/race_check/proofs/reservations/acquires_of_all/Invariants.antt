@@ -1,5 +1,0 @@
-use Rattle.race_check.specs.High.{AreAcquires}
-use Rattle.race_check.proofs.reservations.acquires_of_all.Given as goal
-
-abbrev pub invariant-loop-line : goal.invariant-loop-line
-invariant-loop-line l = AreAcquires l.graph l.lists.items l.line

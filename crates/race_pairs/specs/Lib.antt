@@ -1,0 +1,4 @@
+pub mod Races
+pub mod Summaries
+pub mod Laws
+pub mod Topmost

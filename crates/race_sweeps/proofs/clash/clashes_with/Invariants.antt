@@ -1,7 +1,0 @@
-use Rattle.graph_terms.specs.Access.{all_accesses}
-use Rattle.race_sweeps.specs.Clash.{Clash}
-use Rattle.race_sweeps.proofs.AccessSteps.{NoneAmong}
-use Rattle.race_sweeps.proofs.clash.clashes_with.Given as goal
-
-abbrev pub invariant-loop-k : goal.invariant-loop-k
-invariant-loop-k l = NoneAmong (Clash l.graph l.commuting l.one) (all_accesses l.graph l.line) l.k

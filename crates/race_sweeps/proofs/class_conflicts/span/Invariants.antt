@@ -1,6 +1,0 @@
-use Rattle.std.proofs.Common.{take}
-use Rattle.race_sweeps.specs.Spots.{IsSpan}
-use Rattle.race_sweeps.proofs.class_conflicts.span.Given as goal
-
-abbrev pub invariant-loop-interval : goal.invariant-loop-interval
-invariant-loop-interval l = IsSpan (take l.interval-index l.intervals) l.first l.last

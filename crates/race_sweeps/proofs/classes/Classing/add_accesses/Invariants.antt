@@ -1,9 +1,0 @@
-use Rattle.std.proofs.Common.{◌<◌, length}
-use Rattle.race_sweeps.specs.Classes.{AreClassesTo}
-use Rattle.race_sweeps.proofs.classes.Classing.add_accesses.Given as goal
-
-abbrev pub invariant-loop-k : goal.invariant-loop-k
-invariant-loop-k l = record {
-  heads : 0 < length l.self.heads.items;
-  classes : AreClassesTo l.graph l.order l.self.classes.keys.items l.self.classes.of.items l.self.classes.sites.items l.self.classes.begins.items l.place l.k;
-}

@@ -1,9 +1,0 @@
-use Rattle.std.proofs.Common.{◌<◌, length}
-use Rattle.race_sweeps.specs.Classes.{AreClassesTo}
-use Rattle.race_sweeps.proofs.classes.classes_of_lines.Given as goal
-
-abbrev pub invariant-loop-place : goal.invariant-loop-place
-invariant-loop-place l = record {
-  heads : 0 < length l.classing.heads.items;
-  classes : AreClassesTo l.graph l.order l.classing.classes.keys.items l.classing.classes.of.items l.classing.classes.sites.items l.classing.classes.begins.items l.place 0;
-}

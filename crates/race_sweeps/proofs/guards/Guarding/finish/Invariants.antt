@@ -1,9 +1,0 @@
-use Rattle.std.proofs.Common.{◌≡◌, length}
-use Rattle.race_sweeps.proofs.Guarding.{AreStarts}
-use Rattle.race_sweeps.proofs.guards.Guarding.finish.Given as goal
-
-abbrev pub invariant-loop-number : goal.invariant-loop-number
-invariant-loop-number l = record {
-  size : length l.starts.items ≡ l.number;
-  started : AreStarts l.graph l.held l.order l.classes.of.items l.classes.sites.items l.self.locks.items l.self.openings.items l.starts.items l.number;
-}

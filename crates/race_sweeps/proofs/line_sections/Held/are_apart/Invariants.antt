@@ -1,6 +1,0 @@
-use Rattle.race_sweeps.specs.Held.{list_of}
-use Rattle.race_sweeps.proofs.Sections.{NoneExclude}
-use Rattle.race_sweeps.proofs.line_sections.Held.are_apart.Given as goal
-
-abbrev pub invariant-loop-kept : goal.invariant-loop-kept
-invariant-loop-kept l = NoneExclude l.graph l.self l.one l.other (list_of l.self l.one) l.kept-index

@@ -1,0 +1,9 @@
+pub mod WordBits
+pub mod Lists
+pub mod Loops
+pub mod EdgeSteps
+pub mod ReservationFacts
+pub mod Placing
+pub mod Sections
+pub mod BlockRules
+pub mod Public
