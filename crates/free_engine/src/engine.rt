@@ -5,10 +5,10 @@ ghost use Rattle.graph_meaning.specs.Evaluation.{outcome as evaluated};
 ghost use Rattle.graph_meaning.specs.Trace.{IsLawful, SectionsApart};
 ghost use Rattle.run_words.specs.Words.{graph_of, IsAt, HasAll};
 
+use crate::team::Team;
 use crate::workers::run_workers;
 use closed_run::core_of;
 use graph_terms::outcome::Outcome;
-use idle_workers::Waiting;
 use realm_io::{Gate, Hints};
 use run_words::{WordSeat, Words};
 use std::sync::Wait;
@@ -35,8 +35,8 @@ pub fn run_free<'g, R: Threads + Wait + Sync, G: Gate, H: Hints>(
     ensures sections { SectionsApart (graph_of words.entry) result.trace }
     ensures lines { (k i : ℕ) → slice_get result.trace k ≡ Some i → i < length (graph_of words.entry).lines }
 {
-    let idle = Waiting::new();
-    let seat = run_workers(rt, &words, gate, &idle, seat, hints);
+    let team = Team::new();
+    let seat = run_workers(rt, &words, gate, &team, seat, hints);
     let mut core = core_of(words, seat);
     core.finish();
     core.outcome()

@@ -9,11 +9,13 @@ mod hint_queue;
 mod hint_rule;
 mod hint_view;
 mod laws;
+mod line_counts;
 mod queue_counts;
 mod queue_hints;
 mod round;
 mod search;
 mod shared_words;
+mod team;
 mod workers;
 
 pub use engine::run_free;

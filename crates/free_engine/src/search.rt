@@ -5,6 +5,7 @@ ghost use Rattle.std.specs.Prelude.{◌≡◌, ◌<◌, length, IfSome};
 ghost use Rattle.run_words.specs.Words.{graph_of, numbers_of, splits_of, IsAt};
 
 use crate::shared_words::SharedWords;
+use crate::team::Team;
 use idle_workers::Waiting;
 use realm_io::Hints;
 use run_words::WordSeat;
@@ -129,31 +130,28 @@ impl Search {
     /// The worker has taken a line, so it does not wait. Another worker is told where there may be more:
     /// further new lines, lines that wait for what the line that was put back before has left free, or
     /// more of those that this worker was told of.
-    pub(crate) fn taken<W: SharedWords>(&mut self, words: &W, idle: &Waiting, line: u32) {
+    pub(crate) fn taken<W: SharedWords>(&mut self, words: &W, team: &Team, line: u32) {
         if let Origin::Hinted = self.origin {
             self.look_again_after(0);
             self.next_skips = 1;
         }
         if self.seen.take().is_some() {
-            idle.withdraw();
+            team.idle.withdraw();
         }
         let ended = self.ended.take();
         let was_told = self.was_told;
         self.was_told = false;
-        if idle.is_waited()
-            && (was_told || self.has_more_new() || leaves_free(words, ended, line))
+        if team.idle.is_waited()
+            && (was_told || self.has_more_new(team) || leaves_free(words, ended, line))
         {
-            idle.tell();
+            team.idle.tell();
         }
     }
 
-    /// Whether the line that was taken is new and may not be the last one.
-    fn has_more_new(&self) -> bool {
-        match self.origin {
-            Origin::New => !self.is_all_issued,
-            Origin::Kept => false,
-            Origin::Hinted => false,
-        }
+    /// Whether a new line may be left: one that was issued ahead, or one behind the new line that was taken.
+    fn has_more_new(&self, team: &Team) -> bool {
+        let is_new = matches!(self.origin, Origin::New);
+        is_new && !self.is_all_issued || team.counts.has_unclaimed()
     }
 
     /// The worker finds no line: first it says that it is about to wait and looks once more, through all
@@ -187,6 +185,7 @@ fn leaves_free<W: SharedWords>(words: &W, ended: Option<u32>, taken: u32) -> boo
 pub(crate) fn next_line<R: Wait, W: SharedWords, H: Hints>(
     rt: &R,
     words: &W,
+    team: &Team,
     seat: &mut WordSeat,
     hints: &mut H,
     search: &mut Search,
@@ -202,9 +201,94 @@ pub(crate) fn next_line<R: Wait, W: SharedWords, H: Hints>(
             return Some(line);
         }
     }
+    search.origin = Origin::New;
+    if let Some(line) = team.counts.claim() {
+        if line < lines {
+            return Some(line);
+        }
+    }
+    issue_new(words, team, seat, search)
+}
+
+/// Issues the next line and claims it. None also comes where another was faster to claim it.
+fn issue_new<W: SharedWords>(
+    words: &W,
+    team: &Team,
+    seat: &mut WordSeat,
+    search: &mut Search,
+) -> Option<u32>
+    requires at { IsAt (W.words words.now) seat.old }
+    ensures at { IsAt (W.words words.now) seat.new }
+    ensures line { IfSome result (λ line. line < length (graph_of (W.words words.now)).lines) }
+    ensures numbers { (numbers_of seat.new ≡ numbers_of seat.old) × (splits_of seat.new ≡ splits_of seat.old) }
+{
+    let line = issue_one(words, team, seat, search)?;
+    if team.counts.claim_if_first(line) {
+        return Some(line);
+    }
+    None
+}
+
+/// Issues the next line, and says so.
+fn issue_one<W: SharedWords>(
+    words: &W,
+    team: &Team,
+    seat: &mut WordSeat,
+    search: &mut Search,
+) -> Option<u32>
+    requires at { IsAt (W.words words.now) seat.old }
+    ensures at { IsAt (W.words words.now) seat.new }
+    ensures line { IfSome result (λ line. line < length (graph_of (W.words words.now)).lines) }
+    ensures numbers { (numbers_of seat.new ≡ numbers_of seat.old) × (splits_of seat.new ≡ splits_of seat.old) }
+{
     if search.is_all_issued {
         return None;
     }
-    search.origin = Origin::New;
-    words.issue_next(seat, &mut search.is_all_issued)
+    let line = words.issue_next(seat, &mut search.is_all_issued)?;
+    team.counts.note_issued(line);
+    Some(line)
+}
+
+/// The line to which a worker goes on from one that it has put back: it waited for that one alone, and
+/// comes soon in the file. It is issued then, and so are all lines before it.
+pub(crate) fn follow<W: SharedWords>(
+    words: &W,
+    team: &Team,
+    seat: &mut WordSeat,
+    search: &mut Search,
+    ended: u32,
+) -> Option<u32>
+    requires at { IsAt (W.words words.now) seat.old }
+    ensures at { IsAt (W.words words.now) seat.new }
+    ensures numbers { (numbers_of seat.new ≡ numbers_of seat.old) × (splits_of seat.new ≡ splits_of seat.old) }
+{
+    let line = words.follower(ended)?;
+    if !team.counts.is_near(line) || !is_issued_up_to(words, team, seat, search, line) {
+        return None;
+    }
+    let _ = team.counts.claim_if_first(line);
+    Some(line)
+}
+
+/// Issues lines up to one that is near. False where that can't be done now.
+fn is_issued_up_to<W: SharedWords>(
+    words: &W,
+    team: &Team,
+    seat: &mut WordSeat,
+    search: &mut Search,
+    line: u32,
+) -> bool
+    requires at { IsAt (W.words words.now) seat.old }
+    ensures at { IsAt (W.words words.now) seat.new }
+    ensures numbers { (numbers_of seat.new ≡ numbers_of seat.old) × (splits_of seat.new ≡ splits_of seat.old) }
+{
+    for _turn in 0..words.lines() {
+        if team.counts.is_issued(line) {
+            return true;
+        }
+        if issue_one(words, team, seat, search).is_none() {
+            return false;
+        }
+    }
+    team.counts.is_issued(line)
 }

@@ -18,6 +18,14 @@ use std::sync::Wait;
 /// How often a worker tries to issue a line while another one has the issue turn, which is short.
 const MOST_ISSUES: u32 = 8;
 
+/// How many of the lines that wait for one a worker looks at, to go on to one of them.
+const MOST_EDGES: usize = 4;
+
+/// Whether what may be a line waits for one line alone.
+fn waits_for_one(graph: &Graph, line: u32) -> bool {
+    line < graph.lines() && graph.edges_into(line).len() == 1
+}
+
 /// Whether a line has the column of the access k of another one.
 fn has_column_of(graph: &Graph, line: u32, other: u32, k: u32) -> bool {
     let Some(column) = column_of(graph, other, k) else {
@@ -69,6 +77,10 @@ pub(crate) trait SharedWords: Sync {
         requires line { line < length (graph_of (words self.now)).lines }
         ensures at { IsAt (words self.now) seat.new }
         ensures answer { Answered (words self.now) line seat.old seat.new result };
+
+    /// The first of the lines that wait for this one alone, if there is one among the first few that wait
+    /// for it.
+    fn follower(&self, line: u32) -> Option<u32>;
 
     /// Whether a line may run while another one does: they have no column in common.
     fn may_run_beside(&self, line: u32, other: u32) -> bool;
@@ -133,6 +145,21 @@ impl<'g> SharedWords for Words<'g> {
 
     fn attempt_line(&self, seat: &mut WordSeat, line: u32) -> WordAttempt {
         self.attempt(seat, line)
+    }
+
+    fn follower(&self, line: u32) -> Option<u32> {
+        let graph = self.graph();
+        if line >= graph.lines() {
+            return None;
+        }
+        let edges = graph.edges_from(line);
+        for k in 0..edges.len().min(MOST_EDGES) {
+            let next = edges[k].to;
+            if waits_for_one(graph, next) {
+                return Some(next);
+            }
+        }
+        None
     }
 
     fn may_run_beside(&self, line: u32, other: u32) -> bool {

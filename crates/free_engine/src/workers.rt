@@ -7,9 +7,9 @@ ghost use Rattle.run_words.specs.Rejoined.{Rejoined};
 ghost use Rattle.run_words.specs.Words.{graph_of, numbers_of, splits_of, IsAt};
 ghost use Rattle.run_words.specs.Works.{IsWokenOf, IsWorkOf};
 
-use crate::search::{Search, next_line};
+use crate::search::{Search, follow, next_line};
 use crate::shared_words::SharedWords;
-use idle_workers::Waiting;
+use crate::team::Team;
 use realm_io::{Gate, Hints};
 use run_words::{Woken, WordAttempt, WordSeat, WordWork};
 use std::sync::Wait;
@@ -20,7 +20,7 @@ fn work<R: Wait, W: SharedWords, G: Gate, H: Hints>(
     rt: &R,
     words: &W,
     gate: &G,
-    idle: &Waiting,
+    team: &Team,
     seat: WordSeat,
     hints: &mut H,
 ) -> WordSeat
@@ -28,11 +28,11 @@ fn work<R: Wait, W: SharedWords, G: Gate, H: Hints>(
     ensures at { IsAt (W.words words.now) result }
     ensures back { Rejoined seat result }
 {
-    idle.enter();
+    team.idle.enter();
     let mut own = seat;
     let mut search = Search::new();
     for _turn in rt.forever() {
-        if !go_on(rt, words, gate, idle, &mut own, hints, &mut search) {
+        if !go_on(rt, words, gate, team, &mut own, hints, &mut search) {
             return own;
         }
     }
@@ -44,7 +44,7 @@ fn go_on<R: Wait, W: SharedWords, G: Gate, H: Hints>(
     rt: &R,
     words: &W,
     gate: &G,
-    idle: &Waiting,
+    team: &Team,
     seat: &mut WordSeat,
     hints: &mut H,
     search: &mut Search,
@@ -53,10 +53,10 @@ fn go_on<R: Wait, W: SharedWords, G: Gate, H: Hints>(
     ensures at { IsAt (W.words words.now) seat.new }
     ensures back { Rejoined seat.old seat.new }
 {
-    let Some(line) = next_line(rt, words, seat, hints, search) else {
-        return search.rest(rt, idle, words.lines());
+    let Some(line) = next_line(rt, words, team, seat, hints, search) else {
+        return search.rest(rt, &team.idle, words.lines());
     };
-    try_line(rt, words, gate, idle, seat, hints, search, line);
+    try_line(rt, words, gate, team, seat, hints, search, line);
     true
 }
 
@@ -66,7 +66,7 @@ fn try_line<R: Wait, W: SharedWords, G: Gate, H: Hints>(
     rt: &R,
     words: &W,
     gate: &G,
-    idle: &Waiting,
+    team: &Team,
     seat: &mut WordSeat,
     hints: &mut H,
     search: &mut Search,
@@ -79,8 +79,8 @@ fn try_line<R: Wait, W: SharedWords, G: Gate, H: Hints>(
 {
     match words.attempt_line(seat, line) {
         WordAttempt::Taken(work) => {
-            search.taken(words, idle, line);
-            end_work(rt, words, gate, idle, seat, hints, search, work);
+            search.taken(words, team, line);
+            end_work(rt, words, gate, team, seat, hints, search, work);
         }
         WordAttempt::NotYet(_) => leave_unplaced(rt, seat, hints, line),
         WordAttempt::Busy(_) => hints.push(rt, line),
@@ -96,13 +96,13 @@ fn leave_unplaced<R: Wait, H: Hints>(rt: &R, seat: &WordSeat, hints: &mut H, lin
     }
 }
 
-/// Performs the work of a line and puts the line back. The first line that waited for it is kept, and
-/// the others are left for later.
+/// Performs the work of a line and puts the line back. A line that waited for it is kept, and the others
+/// are left for later.
 fn end_work<R: Wait, W: SharedWords, G: Gate, H: Hints>(
     rt: &R,
     words: &W,
     gate: &G,
-    idle: &Waiting,
+    team: &Team,
     seat: &mut WordSeat,
     hints: &mut H,
     search: &mut Search,
@@ -116,11 +116,33 @@ fn end_work<R: Wait, W: SharedWords, G: Gate, H: Hints>(
 {
     let line = work.line();
     let mut woken = words.end(rt, seat, work, gate);
-    let kept = words.next_woken(seat, &mut woken);
+    let kept = next_kept(words, team, seat, search, line, &mut woken);
     search.ended(line, kept);
     if let Some(first) = kept {
-        leave_others(rt, words, idle, seat, hints, woken, first);
+        leave_others(rt, words, team, seat, hints, woken, first);
     }
+}
+
+/// The line that is kept: the one to which the worker goes on, else the first that waited for the line that
+/// was put back.
+fn next_kept<W: SharedWords>(
+    words: &W,
+    team: &Team,
+    seat: &mut WordSeat,
+    search: &mut Search,
+    ended: u32,
+    woken: &mut Woken,
+) -> Option<u32>
+    requires at { IsAt (W.words words.now) seat.old }
+    requires woken { IsWokenOf (W.words words.now) woken.old }
+    ensures at { IsAt (W.words words.now) seat.new }
+    ensures woken { IsWokenOf (W.words words.now) woken.new }
+    ensures numbers { (numbers_of seat.new ≡ numbers_of seat.old) × (splits_of seat.new ≡ splits_of seat.old) }
+{
+    if let Some(line) = follow(words, team, seat, search, ended) {
+        return Some(line);
+    }
+    words.next_woken(seat, woken)
 }
 
 /// Leaves all further lines that waited for one for later, and tells a worker that waits of each that
@@ -128,7 +150,7 @@ fn end_work<R: Wait, W: SharedWords, G: Gate, H: Hints>(
 fn leave_others<R: Wait, W: SharedWords, H: Hints>(
     rt: &R,
     words: &W,
-    idle: &Waiting,
+    team: &Team,
     seat: &mut WordSeat,
     hints: &mut H,
     mut woken: Woken,
@@ -143,15 +165,29 @@ fn leave_others<R: Wait, W: SharedWords, H: Hints>(
         let Some(line) = words.next_woken(seat, &mut woken) else {
             return;
         };
+        leave_other(rt, words, team, hints, line, kept);
+    }
+}
+
+/// Leaves a line for later, unless it was kept.
+fn leave_other<R: Wait, W: SharedWords, H: Hints>(
+    rt: &R,
+    words: &W,
+    team: &Team,
+    hints: &mut H,
+    line: u32,
+    kept: u32,
+) {
+    if line != kept {
         hints.push(rt, line);
-        tell_of(words, idle, line, kept);
+        tell_of(words, team, line, kept);
     }
 }
 
 /// Tells a worker that waits of a line that may run beside the one that was kept.
-fn tell_of<W: SharedWords>(words: &W, idle: &Waiting, line: u32, kept: u32) {
-    if idle.is_waited() && words.may_run_beside(line, kept) {
-        idle.tell();
+fn tell_of<W: SharedWords>(words: &W, team: &Team, line: u32, kept: u32) {
+    if team.idle.is_waited() && words.may_run_beside(line, kept) {
+        team.idle.tell();
     }
 }
 
@@ -161,7 +197,7 @@ pub(crate) fn run_workers<R: Threads + Wait + Sync, W: SharedWords, G: Gate, H: 
     rt: &R,
     words: &W,
     gate: &G,
-    idle: &Waiting,
+    team: &Team,
     seat: WordSeat,
     hints: &mut [H],
 ) -> WordSeat
@@ -174,10 +210,10 @@ pub(crate) fn run_workers<R: Threads + Wait + Sync, W: SharedWords, G: Gate, H: 
     }
     let (first, rest) = hints.split_at_mut(1);
     if rest.len() == 0 {
-        return work(rt, words, gate, idle, seat, &mut first[0]);
+        return work(rt, words, gate, team, seat, &mut first[0]);
     }
     let (own, other) = words.cut(seat);
-    let (own, other) = run_both(rt, words, gate, idle, own, &mut first[0], other, rest);
+    let (own, other) = run_both(rt, words, gate, team, own, &mut first[0], other, rest);
     words.joined(own, other)
 }
 
@@ -187,7 +223,7 @@ fn run_both<R: Threads + Wait + Sync, W: SharedWords, G: Gate, H: Hints>(
     rt: &R,
     words: &W,
     gate: &G,
-    idle: &Waiting,
+    team: &Team,
     own: WordSeat,
     hints: &mut H,
     other: WordSeat,
@@ -202,10 +238,10 @@ fn run_both<R: Threads + Wait + Sync, W: SharedWords, G: Gate, H: Hints>(
         || -> WordSeat
             requires { IsSync G.row × IsSend H.row × IsAt (W.words words.now) own }
             ensures { IsAt (W.words words.entry.now) result × Rejoined own result }
-        { work(rt, words, gate, idle, own, hints) },
+        { work(rt, words, gate, team, own, hints) },
         || -> WordSeat
             requires { IsSync R.row × IsSync W.row × IsSync G.row × IsSend H.row × IsAt (W.words words.now) other }
             ensures { IsAt (W.words words.entry.now) result × Rejoined other result }
-        { run_workers(rt, words, gate, idle, other, rest) },
+        { run_workers(rt, words, gate, team, other, rest) },
     )
 }

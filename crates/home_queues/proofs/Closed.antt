@@ -1,10 +1,9 @@
 -- How parts are taken apart, and how their deques are emptied, one by one.
-use Rattle.std.proofs.Common.{◌≡◌, ℕ, zero, suc, ◌+◌, ◌*◌, ◌<◌, ◌≤◌, max, All, Some, List, [], ◌∷◌, ◌++◌, length, get_or, drop, Vec, sum_by, sym, refl, ap, ◌∙◌, subst, arith, length-append}
+use Rattle.std.proofs.Common.{◌≡◌, ℕ, zero, suc, ◌+◌, ◌<◌, All, Some, List, [], ◌∷◌, ◌++◌, length, get_or, drop, Vec, sum_by, sym, refl, ap, ◌∙◌, subst, arith, length-append}
 use Rattle.std.proofs.lemmas.List.{get_or_append_left}
 use Rattle.std.proofs.lemmas.List.Elements.{All-push, All-nil, All-weaker}
 use Rattle.std.proofs.lemmas.List.Sums.{sum_by-cons}
 use Rattle.std.proofs.Math.Seq.{get_or-append_seam}
-use Rattle.std.proofs.Math.Nat.{min-le_right}
 use Rattle.std.specs.Prelude.{slice_get, slice_index}
 use mathlib.Core.Logic.{dite}
 use native.Mathlib.Decide.{ℕ_discrete}
@@ -99,8 +98,7 @@ spread_grows n k parts rest more owners owners' rows rows' counts counts' own ro
     let is_n : lines ≡ n = sym lin ∙ tie.lines in
     let same : deques_of row.items ≡ s.deques = sym deques ∙ tie.deques_are in
     let mine : IsPart k n own row.items c.pushed c.taken = subst (λ (q : ℕ × ℕ). IsPart q.0 q.1 own row.items c.pushed c.taken) (λ i. (is_k i, is_n i)) part in
-    let room : c.pushed.all ≤ 131072 = omega (arith, mine.room, min-le_right (max (16 * n) 4096) 131072) in
-    let owner : IsOwner n own = record { flavor = mine.owner.flavor; lines = mine.owner.lines; some_share = omega (arith, mine.owner.shares_is); most = omega (arith, mine.put_len, room) } in
+    let owner : IsOwner n own = record { flavor = mine.owner.flavor; lines = mine.owner.lines; some_share = omega (arith, mine.owner.shares_is); most = omega (arith, mine.put_len, mine.pushed_most) } in
     let here : IsOwnerAt n s.deques k own = record { owner = owner; share = mine.owner.shares_is; deque = ap (λ ds. slice_get ds k) (sym same) ∙ mine.deque } in
     let len : length owners' ≡ length owners + 1 = length_last owners' owners own hs in
     record {
@@ -118,7 +116,7 @@ spread_grows n k parts rest more owners owners' rows rows' counts counts' own ro
           let there : get_or owners' j w ≡ get_or owners j w = ap (λ (l : List Owner). get_or l j w) hs ∙ get_or_append_left owners (own ∷ []) w j below in
           subst (IsOwnerAt n s.deques j) (sym there) (s.each_owner j w below));
       each_row = subst (All (IsRowOf n s.deques)) (sym rs) (All-push (IsRowOf n s.deques) rows row s.each_row (record { deques_are = same; len = mine.eight; right = mine.right }));
-      each_count = subst (All (IsCounted n)) (sym cs) (All-push (IsCounted n) counts c s.each_count (record { pushed_len = mine.pushed_len; taken_len = mine.taken_len; pushed_most = room; taken_most = mine.most }));
+      each_count = subst (All (IsCounted n)) (sym cs) (All-push (IsCounted n) counts c s.each_count (record { pushed_len = mine.pushed_len; taken_len = mine.taken_len; pushed_most = mine.pushed_most; taken_most = mine.most }));
       pushed = λ x.
           let a = total_last (λ (q : PartCounts). slice_index q.pushed.each x) counts' counts c cs in
           let b = ap (total (λ (p : HintsValue). slice_index p.pushed x)) first in

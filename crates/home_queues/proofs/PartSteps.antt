@@ -8,7 +8,6 @@ use Rattle.crossbeam_deque.specs.Handles.{worker_deque, worker_view, worker_inde
 use Rattle.basics.specs.Sums.{total, only}
 use Rattle.home_queues.specs.DequeRule.{with_put, with_taken}
 use Rattle.home_queues.specs.Counts.{CountsValue, one_more, counted}
-use Rattle.home_queues.specs.Room.{room_for}
 use Rattle.home_queues.specs.Parts.{Owner, deque_of, deques_of, stolen, IsOwnerWith, IsStealRight, IsPart}
 use Rattle.home_queues.specs.declared.deque_view.DequeView.{DequeView}
 use Rattle.home_queues.specs.declared.deque.StealRight.{StealRight}
@@ -27,7 +26,7 @@ one_more-get counts x y lt = dite (ℕ_discrete y x)
 pub same_owner : (n shares : ℕ) (v w : Owner) → IsOwnerWith n shares v → SameWorker v w → (worker_view w).lines ≡ (worker_view v).lines → (worker_view w).shares ≡ (worker_view v).shares → IsOwnerWith n shares w
 same_owner n shares v w h same lines share = record { flavor = same.1 ∙ h.flavor; lines = lines ∙ h.lines; shares_is = share ∙ h.shares_is }
 
-pub puts_one : (number n : ℕ) (own next : Owner) (rs : List StealRight) (p t : CountsValue) (x : ℕ) → IsPart number n own rs p t → x < n → p.all < room_for n
+pub puts_one : (number n : ℕ) (own next : Owner) (rs : List StealRight) (p t : CountsValue) (x : ℕ) → IsPart number n own rs p t → x < n → p.all < 2 ^ 60
     → SameWorker own next → worker_index next ≡ worker_index own + 1 → worker_view next ≡ with_put (worker_view own) (x ∷ [])
     → IsPart number n next rs (counted p x) t
 puts_one number n own next rs p t x h below room same index is =
@@ -40,7 +39,7 @@ puts_one number n own next rs p t x h below room same index is =
       right = h.right;
       capacity = omega (arith, same.3, h.capacity);
       index = omega (arith, h.index);
-      room = omega arith;
+      pushed_most = omega arith;
       put_len = ap (λ (v : DequeView). length v.put) is ∙ omega (arith, length-append (worker_view own).put (x ∷ []), h.put_len);
       most = h.most;
       pushed_len = omega (arith, length-set {A = ℕ}, h.pushed_len);
@@ -68,7 +67,7 @@ takes_one number n own next rs p t x h below most same index is =
       right = h.right;
       capacity = omega (arith, same.3, h.capacity);
       index = omega (arith, h.index);
-      room = h.room;
+      pushed_most = h.pushed_most;
       put_len = ap (λ (v : DequeView). length v.put) is ∙ h.put_len;
       most = omega arith;
       pushed_len = h.pushed_len;
@@ -99,7 +98,7 @@ takes_none number n own next rs ss p t h same index is deques right totals =
       right = right;
       capacity = omega (arith, same.3, h.capacity);
       index = omega (arith, h.index);
-      room = h.room;
+      pushed_most = h.pushed_most;
       put_len = ap (λ (v : DequeView). length v.put) is ∙ h.put_len;
       most = h.most;
       pushed_len = h.pushed_len;
@@ -111,6 +110,13 @@ takes_none number n own next rs ss p t h same index is deques right totals =
           let b = h.took y small in let e = totals (only y) in
           let d : total (only y) (worker_view next).taken ≡ total (only y) (worker_view own).taken = ap (λ (v : DequeView). total (only y) v.taken) is in omega arith;
     }
+
+-- it found no free slot in its own deque
+pub puts_none : (number n : ℕ) (own next : Owner) (rs : List StealRight) (p t : CountsValue) → IsPart number n own rs p t
+    → SameWorker own next → worker_index next ≡ worker_index own → worker_view next ≡ worker_view own
+    → IsPart number n next rs p t
+puts_none number n own next rs p t h same index is =
+    takes_none number n own next rs rs p t h same (omega arith) is refl h.right (λ f. refl)
 
 -- it stole one number
 pub steals_one : (number n : ℕ) (own : Owner) (rs ss : List StealRight) (p t : CountsValue) (x : ℕ) → IsPart number n own rs p t → x < n → t.all < 2 ^ 60
@@ -126,7 +132,7 @@ steals_one number n own rs ss p t x h below most deques right totals =
       right = right;
       capacity = h.capacity;
       index = h.index;
-      room = h.room;
+      pushed_most = h.pushed_most;
       put_len = h.put_len;
       most = omega arith;
       pushed_len = h.pushed_len;

@@ -1,5 +1,5 @@
 -- How the passes at a deque come back to its owner.
-use Rattle.std.specs.Prelude.{◌≡◌, ℕ, ◌+◌, ◌<◌, ◌≤◌, All, List, length, slice_index_or}
+use Rattle.std.specs.Prelude.{◌≡◌, ℕ, ◌+◌, ◌^◌, ◌<◌, ◌≤◌, All, List, length, slice_index_or}
 use Rattle.std.specs.Prelude.{Vec}
 use Rattle.std.specs.declared.alloc.Global.{Global}
 use Rattle.crossbeam_deque.specs.Handles.{worker_deque, worker_flavor, worker_view}
@@ -19,7 +19,7 @@ pub record IsOwner (n : ℕ) (w : Owner) : Type 0 where
   pub flavor : worker_flavor w ≡ 0
   pub lines : (worker_view w).lines ≡ n
   pub some_share : 0 < (worker_view w).shares
-  pub most : length (worker_view w).put ≤ 131072
+  pub most : length (worker_view w).put ≤ 2 ^ 60
 
 -- each right of the row is one to steal from the deque at its place
 abbrev pub Meets : List StealRight → List Owner → Type 0

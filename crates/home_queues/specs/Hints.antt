@@ -8,7 +8,7 @@ use Rattle.home_queues.specs.Counts.{one_more}
 abbrev pub Deque : Type 0
 Deque = (ℕ × ℕ) × Global
 
--- which deques it takes from and which of them is its own, the bound, how often each number was put in here, how many in all, how often each was taken here, how many in all, and how many pops found its own deque empty
+-- which deques it takes from and which of them is its own, the bound, how often each number was put in here, how many in all, how often each was taken here, how many in all, how many pops found its own deque empty, and how many pushes found no free slot there
 pub record HintsValue : Type 0 where
   pub deques : List Deque
   pub number : ℕ
@@ -18,8 +18,9 @@ pub record HintsValue : Type 0 where
   pub taken : List ℕ
   pub takes : ℕ
   pub empty : ℕ
+  pub full : ℕ
 
--- after one number was put in, after one was taken, and after its own deque was found empty
+-- after one number was put in, after one was taken, after its own deque was found empty, and after no free slot was found there
 abbrev pub after_pushed : HintsValue → ℕ → HintsValue
 after_pushed h x = record h { pushed = one_more h.pushed x; pushes = h.pushes + 1 }
 
@@ -29,9 +30,12 @@ after_taken h x = record h { taken = one_more h.taken x; takes = h.takes + 1 }
 abbrev pub after_empty : HintsValue → HintsValue
 after_empty h = record h { empty = next_count h.empty }
 
+abbrev pub after_full : HintsValue → HintsValue
+after_full h = record h { full = next_count h.full }
+
 -- nothing was put in or taken here
 abbrev pub IsNew : ℕ → HintsValue → Type 0
-IsNew n h = (h.pushed ≡ replicate n 0) × (h.pushes ≡ 0) × (h.taken ≡ replicate n 0) × (h.takes ≡ 0) × (h.empty ≡ 0)
+IsNew n h = (h.pushed ≡ replicate n 0) × (h.pushes ≡ 0) × (h.taken ≡ replicate n 0) × (h.takes ≡ 0) × (h.empty ≡ 0) × (h.full ≡ 0)
 
 -- the part with this number, of this bound and these deques
 pub record IsPartAt (n : ℕ) (deques : List Deque) (k : ℕ) (h : HintsValue) : Type 0 where

@@ -46,7 +46,7 @@ pub record IsPart (number n : ℕ) (own : Owner) (rights : List StealRight) (pus
   pub right : All (IsStealRight n) rights
   pub capacity : room_for n ≤ worker_capacity own
   pub index : worker_index own ≤ pushed.all
-  pub room : pushed.all ≤ room_for n
+  pub pushed_most : pushed.all ≤ 2 ^ 60
   pub put_len : length (worker_view own).put ≡ pushed.all
   pub most : taken.all ≤ 2 ^ 60
   pub pushed_len : length pushed.each ≡ n

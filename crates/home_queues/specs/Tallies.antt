@@ -7,7 +7,7 @@ use Rattle.home_queues.specs.declared.tally.PartCounts.{PartCounts}
 pub record IsCounted (n : ℕ) (p : PartCounts) : Type 0 where
   pub pushed_len : length p.pushed.each ≡ n
   pub taken_len : length p.taken.each ≡ n
-  pub pushed_most : p.pushed.all ≤ 131072
+  pub pushed_most : p.pushed.all ≤ 2 ^ 60
   pub taken_most : p.taken.all ≤ 2 ^ 60
 
 pub record IsTally (n : ℕ) (parts : List PartCounts) (left : CountsValue) : Type 0 where

@@ -37,7 +37,7 @@ pub(crate) fn spread(
             rights,
             pushed,
             taken,
-            empty: _,
+            counts: _,
         } = part;
         push_within(owners, own);
         push_within(rows, rights);
@@ -87,10 +87,10 @@ pub(crate) fn gather_all(owners: &mut Vec<Owner>, rows: Vec<Vec<StealRight>>, li
 /// Takes what is left in a deque, and counts it.
 pub(crate) fn drain(owner: Owner, left: &mut Counts, lines: u32)
     requires owner { IsOwnerWith lines 9 owner }
-    requires most { length (worker_view owner).put ≤ 131072 }
-    requires left { (length left.old.each ≡ lines) × (left.old.all ≤ 2 ^ 32) }
+    requires most { length (worker_view owner).put ≤ 2 ^ 60 }
+    requires left { (length left.old.each ≡ lines) × (left.old.all ≤ 2 ^ 63) }
     ensures len { length left.new.each ≡ lines }
-    ensures all { left.new.all ≤ left.old.all + 131072 }
+    ensures all { left.new.all ≤ left.old.all + 2 ^ 60 }
     ensures counted { (x : ℕ) → x < lines → slice_index left.new.each x + taken_by (only x) owner
         ≡ slice_index left.old.each x + put_by (only x) owner }
 {

@@ -1,5 +1,5 @@
 //! One deque: its owner, and who may steal from it.
-ghost use Rattle.std.specs.Prelude.{◌≡◌, ◌+◌, ◌-◌, ◌<◌, ◌≤◌, ◌^◌, ◌⊎◌, IfOk, IfSome, MatchOption, [], ◌∷◌, length};
+ghost use Rattle.std.specs.Prelude.{◌≡◌, ◌+◌, ◌-◌, ◌<◌, ◌≤◌, ◌^◌, ◌⊎◌, IfOk, IfSome, MatchOption, true, false, [], ◌∷◌, length};
 ghost use Rattle.crossbeam_deque.specs.Handles.{IsPassOf, SameWorker, worker_deque, stealer_deque, worker_flavor, worker_view, worker_capacity, worker_index, view};
 ghost use Rattle.home_queues.specs.Room.{room_for};
 ghost use Rattle.home_queues.specs.DequeRule.{first_view, with_lines, without_share, one_share, joined, with_put, with_taken, SawEmpty, IsDrained};
@@ -20,21 +20,18 @@ pub(crate) struct StealRight {
     pub(crate) pass: Pass<u32, DequeView>,
 }
 
-/// For how many hints a deque has room for each number below the bound.
-const ROOM_EACH: u64 = 16;
-
 /// The least room of a deque.
-const LEAST_ROOM: u64 = 4_096;
+const LEAST_ROOM: u64 = 64;
 
 /// The most room of a deque.
-const MOST_ROOM: u64 = 131_072;
+const MOST_ROOM: u64 = 8_192;
 
-/// How many hints each owner may put in, and for how many each deque has room from the start: 16 for each
-/// number below the bound, but not fewer than 4,096 and not more than 131,072.
+/// For how many hints each deque has room: one for each number below the bound, but not fewer than 64 and
+/// not more than 8,192, as many as the lines of a run that are issued and have not ended.
 pub(crate) fn room_for(lines: u32) -> u64
     ensures { result ≡ room_for lines }
 {
-    (ROOM_EACH * lines as u64).max(LEAST_ROOM).min(MOST_ROOM)
+    (lines as u64).max(LEAST_ROOM).min(MOST_ROOM)
 }
 
 /// A deque for the numbers below `lines`, whose owner has all shares in it.
@@ -74,17 +71,19 @@ pub(crate) fn new_right(owner: &mut Owner) -> Result<StealRight, AllocError>
     Ok(StealRight { stealer, pass })
 }
 
-/// Puts a number in at the back. There is room as long as the owner has put in fewer than there is room
-/// for from the start.
-pub(crate) fn put(owner: &mut Owner, line: u32)
+/// Puts a number in at the back. False where no free slot was found, which is only so once the owner has
+/// put in as many as there is room for.
+pub(crate) fn put(owner: &mut Owner, line: u32) -> bool
     requires below { (line < (worker_view owner.old).lines) × (0 < (worker_view owner.old).shares) }
-    requires room { worker_index owner.old < worker_capacity owner.old }
-    ensures same { SameWorker owner.old owner.new × (worker_index owner.new ≡ worker_index owner.old + 1) }
-    ensures put { worker_view owner.new ≡ with_put (worker_view owner.old) (line ∷ []) }
+    ensures same { SameWorker owner.old owner.new }
+    ensures put { result ≡ true → (worker_view owner.new ≡ with_put (worker_view owner.old) (line ∷ []))
+        × (worker_index owner.new ≡ worker_index owner.old + 1) }
+    ensures full { result ≡ false → (worker_view owner.new ≡ worker_view owner.old)
+        × (worker_index owner.new ≡ worker_index owner.old) × (worker_capacity owner.old ≤ worker_index owner.old) }
 {
     match owner.push_as::<Puts>(line) {
-        Ok(()) => {}
-        Err(_) => unreachable!(),
+        Ok(()) => true,
+        Err(_) => false,
     }
 }
 

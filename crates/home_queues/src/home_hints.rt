@@ -1,24 +1,24 @@
 //! What one worker puts into its own deque and takes out, or steals from the others.
 ghost use Rattle.std.specs.Prelude.{◌≡◌, ℕ, ◌+◌, ◌^◌, ◌<◌, ◌≤◌, ◌⊎◌, All, IfNone, IfSome, MatchOption, slice_index, length};
 ghost use Rattle.basics.specs.Sums.{total};
-ghost use Rattle.home_queues.specs.Hints.{after_pushed, after_taken, after_empty};
+ghost use Rattle.home_queues.specs.Hints.{after_pushed, after_taken, after_empty, after_full};
 ghost use Rattle.home_queues.specs.Room.{room_for};
 ghost use Rattle.home_queues.specs.Parts.{deques_of, IsStealRight, stolen};
 
 use crate::counts::Counts;
-use crate::deque::{Owner, StealRight, put, room_for, steal, take};
-use crate::empty_count::EmptyCount;
+use crate::deque::{Owner, StealRight, put, steal, take};
+use crate::deque_counts::DequeCounts;
 use realm_io::Hints;
 use std::marker::Model;
 use std::sync::Wait;
 
-/// How many hints a part gives at most, so that no count over eight parts passes 2^63.
+/// How many hints a part takes and gives at most, so that no count over eight parts passes 2^63.
 pub const MOST: u64 = 1 << 60;
 
 /// One part of the hints: a deque of its own, and the right to steal from the deques of the other seven.
 /// Contracts see which deques these are and which of them is its own, below which number its hints are, how
-/// often each number was put in and taken here, how many in all, and how many pops found its own deque
-/// empty. That last count stays at 2^64 - 1.
+/// often each number was put in and taken here, how many in all, how many pops found its own deque empty,
+/// and how many pushes found no free slot there. The last two counts stay at 2^64 - 1.
 #[derive(Drop)]
 pub struct HomeHints {
     pub(crate) number: u32,
@@ -27,7 +27,7 @@ pub struct HomeHints {
     pub(crate) rights: Vec<StealRight>,
     pub(crate) pushed: Counts,
     pub(crate) taken: Counts,
-    pub(crate) empty: EmptyCount,
+    pub(crate) counts: DequeCounts,
 }
 
 impl Model for HomeHints {
@@ -45,24 +45,32 @@ impl Model for HomeHints {
       pushes = a.pushed.all;
       taken = a.taken.each;
       takes = a.taken.all;
-      empty = a.empty.count;
+      empty = a.counts.empty;
+      full = a.counts.full;
     } };
 
     ghost invariant = { λ a. IsPart a.number a.lines a.own a.rights.items a.pushed a.taken };
 }
 
 impl Hints for HomeHints {
-    /// Puts the number in at the back of its own deque. It is dropped exactly where it is not below the
-    /// bound, or this part has put in as many as its deque has room for: 16 for each number below the bound,
-    /// but not fewer than 4,096 and not more than 131,072.
+    /// Puts the number in at the back of its own deque. It is dropped where it is not below the bound, where
+    /// this part has put in 2^60, and where no free slot was found. That comes only once it has put in as
+    /// many as its deque has room for: one for each number below the bound, but not fewer than 64 and not
+    /// more than 8,192.
     fn push<R: Wait>(&mut self, _rt: &R, line: u32)
-        ensures dropped { (self.old.lines ≤ line) ⊎ (room_for self.old.lines ≤ self.old.pushes) → self.new ≡ self.old }
+        ensures dropped { (self.old.lines ≤ line) ⊎ (2 ^ 60 ≤ self.old.pushes) → self.new ≡ self.old }
         ensures put { line < self.old.lines → self.old.pushes < room_for self.old.lines →
             self.new ≡ after_pushed self.old line }
+        ensures full { line < self.old.lines → self.old.pushes < 2 ^ 60 →
+            (self.new ≡ after_pushed self.old line) ⊎ (self.new ≡ after_full self.old) }
     {
-        if line < self.lines && self.pushed.all() < room_for(self.lines) {
-            put(&mut self.own, line);
+        if line >= self.lines || self.pushed.all() >= MOST {
+            return;
+        }
+        if put(&mut self.own, line) {
             self.pushed.one_more(line);
+        } else {
+            self.counts.note_full();
         }
     }
 
@@ -82,7 +90,7 @@ impl Hints for HomeHints {
             self.taken.one_more(line);
             return Some(line);
         }
-        self.empty.note_empty(&self.own);
+        self.counts.note_empty(&self.own);
         let line = steal_any(&mut self.rights, self.number, self.lines)?;
         self.taken.one_more(line);
         Some(line)

@@ -5,9 +5,9 @@
 mod closing;
 mod counts;
 mod deque;
+mod deque_counts;
 mod deque_rule;
 mod deque_view;
-mod empty_count;
 mod home_hints;
 mod home_list;
 mod home_queues;

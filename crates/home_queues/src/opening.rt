@@ -6,7 +6,7 @@ ghost use Rattle.home_queues.specs.Opening.{IsFresh, IsNewRight, IsRow, first_sh
 
 use crate::counts::Counts;
 use crate::deque::{Owner, StealRight, new_owner, new_right};
-use crate::empty_count::EmptyCount;
+use crate::deque_counts::DequeCounts;
 use crate::home_hints::HomeHints;
 use std::alloc::{AllocError, Global};
 
@@ -98,7 +98,7 @@ pub(crate) fn new_parts(
             rights,
             pushed,
             taken,
-            empty: EmptyCount::none(),
+            counts: DequeCounts::none(),
         })?;
         number += 1;
     }

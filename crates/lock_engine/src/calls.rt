@@ -6,6 +6,7 @@ ghost use Rattle.lock_engine.specs.Turns.{work_in};
 ghost use Rattle.lock_engine.specs.Seats.{IsWaiting, IsIdle, KeepsPlace, HasWork, HasDone, IsIssuedOf};
 
 use crate::lock::{Lock, LockSeat, give_turn, take_turn};
+use crate::sleepers::Sleepers;
 use run_core::{Attempt, Finished, Issue};
 use std::sync::Wait;
 
@@ -13,6 +14,7 @@ use std::sync::Wait;
 pub(crate) fn put_back<'g, R: Wait>(
     rt: &R,
     lock: &Lock<'g>,
+    sleepers: &Sleepers,
     seat: &mut LockSeat<'g>,
     finished: Finished,
 )
@@ -21,21 +23,26 @@ pub(crate) fn put_back<'g, R: Wait>(
     ensures place { KeepsPlace lock.now.table_id seat.old seat.new }
     ensures idle { seat.new.me.0.line ≡ None }
 {
-    let mut core = take_turn(rt, lock, seat);
+    let mut core = take_turn(rt, lock, sleepers, seat);
     core.put_back(finished);
-    give_turn(lock, seat, core);
+    give_turn(lock, sleepers, seat, core);
 }
 
 /// Issues a line.
-pub(crate) fn issue<'g, R: Wait>(rt: &R, lock: &Lock<'g>, seat: &mut LockSeat<'g>) -> Issue
+pub(crate) fn issue<'g, R: Wait>(
+    rt: &R,
+    lock: &Lock<'g>,
+    sleepers: &Sleepers,
+    seat: &mut LockSeat<'g>,
+) -> Issue
     requires idle { IsIdle lock.now.table_id seat.old }
     ensures place { KeepsPlace lock.now.table_id seat.old seat.new }
     ensures idle { seat.new.me.0.line ≡ None }
     ensures issued { IsIssuedOf seat.old.me.0.core.graph result }
 {
-    let mut core = take_turn(rt, lock, seat);
+    let mut core = take_turn(rt, lock, sleepers, seat);
     let answer = core.issue();
-    give_turn(lock, seat, core);
+    give_turn(lock, sleepers, seat, core);
     answer
 }
 
@@ -43,6 +50,7 @@ pub(crate) fn issue<'g, R: Wait>(rt: &R, lock: &Lock<'g>, seat: &mut LockSeat<'g
 pub(crate) fn attempt<'g, R: Wait>(
     rt: &R,
     lock: &Lock<'g>,
+    sleepers: &Sleepers,
     seat: &mut LockSeat<'g>,
     line: u32,
 ) -> Attempt
@@ -51,10 +59,10 @@ pub(crate) fn attempt<'g, R: Wait>(
     ensures place { KeepsPlace lock.now.table_id seat.old seat.new }
     ensures work { HasWork seat.new.me.0 (work_in result) }
 {
-    let mut core = take_turn(rt, lock, seat);
+    let mut core = take_turn(rt, lock, sleepers, seat);
     let answer = core.attempt(line);
     core.is_sound();
-    give_turn(lock, seat, core);
+    give_turn(lock, sleepers, seat, core);
     answer
 }
 
@@ -62,6 +70,7 @@ pub(crate) fn attempt<'g, R: Wait>(
 pub(crate) fn next_woken<'g, R: Wait>(
     rt: &R,
     lock: &Lock<'g>,
+    sleepers: &Sleepers,
     seat: &mut LockSeat<'g>,
 ) -> Option<u32>
     requires idle { IsIdle lock.now.table_id seat.old }
@@ -69,8 +78,8 @@ pub(crate) fn next_woken<'g, R: Wait>(
     ensures idle { seat.new.me.0.line ≡ None }
     ensures line { IfSome result (λ i. i < length seat.old.me.0.core.graph.lines) }
 {
-    let mut core = take_turn(rt, lock, seat);
+    let mut core = take_turn(rt, lock, sleepers, seat);
     let woken = core.next_woken();
-    give_turn(lock, seat, core);
+    give_turn(lock, sleepers, seat, core);
     woken
 }

@@ -8,6 +8,7 @@ mod next_line;
 mod notes;
 mod plays;
 mod search;
+mod sleepers;
 mod turn;
 mod view;
 mod workers;

@@ -1,6 +1,6 @@
 //! Turns at the lock.
 
-ghost use Rattle.std.specs.Prelude.{◌≡◌, ℕ, [], ◌∷◌, Some, IfSome, IfNone};
+ghost use Rattle.std.specs.Prelude.{◌≡◌, ◌<◌, ℕ, [], ◌∷◌, Some, IfSome, IfNone};
 ghost use Rattle.atomic_table.specs.Seated.{TableId};
 ghost use Rattle.run_core.specs.Works.{KeepsWork};
 ghost use Rattle.lock_engine.specs.Turns.{Call, IsTurn, line_taken};
@@ -8,6 +8,7 @@ ghost use Rattle.lock_engine.specs.Plays.{with_turn, with_line};
 ghost use Rattle.lock_engine.specs.Seats.{IsWaiting, IsServing, IsResting, view_of};
 
 use crate::plays::{Gives, Law, Takes};
+use crate::sleepers::Sleepers;
 use crate::view::View;
 use atomic_table::{Badge, Seat, Shared};
 use graph_model::graph::Graph;
@@ -44,7 +45,12 @@ pub(crate) fn leave_seat<'g>(seat: LockSeat<'g>) -> Badge<View>
 
 /// Waits for the turn, and takes the core out. Before it sleeps it spins, since most turns are
 /// shorter than falling asleep.
-pub(crate) fn take_turn<'g, R: Wait>(rt: &R, lock: &Lock<'g>, seat: &mut LockSeat<'g>) -> Core<'g>
+pub(crate) fn take_turn<'g, R: Wait>(
+    rt: &R,
+    lock: &Lock<'g>,
+    sleepers: &Sleepers,
+    seat: &mut LockSeat<'g>,
+) -> Core<'g>
     requires waiting { IsWaiting lock.now.table_id seat.old }
     ensures serving { IsServing lock.now.table_id seat.new }
     ensures view { seat.new.me.0 ≡ with_turn seat.old.me.0 result }
@@ -55,7 +61,9 @@ pub(crate) fn take_turn<'g, R: Wait>(rt: &R, lock: &Lock<'g>, seat: &mut LockSea
         if let Some(core) = try_often(lock, seat) {
             return core;
         }
+        sleepers.enter();
         lock.park(rt, 0, 1);
+        sleepers.leave();
     }
     unreachable!()
 }
@@ -95,7 +103,12 @@ fn try_turn<'g>(lock: &Lock<'g>, seat: &mut LockSeat<'g>) -> Option<Core<'g>>
 
 /// Puts the core back, on which one call was made since it was taken out, and gives the turn to
 /// somebody else.
-pub(crate) fn give_turn<'g>(lock: &Lock<'g>, seat: &mut LockSeat<'g>, core: Core<'g>)
+pub(crate) fn give_turn<'g>(
+    lock: &Lock<'g>,
+    sleepers: &Sleepers,
+    seat: &mut LockSeat<'g>,
+    core: Core<'g>,
+)
     requires serving { IsServing lock.now.table_id seat.old }
     requires turn { (call : Call) × IsTurn seat.old.me.0.core seat.old.me.0.line call core }
     ensures waiting { IsWaiting lock.now.table_id seat.new }
@@ -104,5 +117,14 @@ pub(crate) fn give_turn<'g>(lock: &Lock<'g>, seat: &mut LockSeat<'g>, core: Core
 {
     lock.exchange(seat, 0, Some(core));
     lock.store::<Gives>(seat, 0, 0);
-    lock.wake_one(0);
+    wake_sleeper(lock, sleepers);
+}
+
+/// Wakes a worker that sleeps at the lock, where one may.
+fn wake_sleeper<'g>(lock: &Lock<'g>, sleepers: &Sleepers)
+    requires { 0 < lock.now.table_id.words }
+{
+    if sleepers.has_some() {
+        lock.wake_one(0);
+    }
 }

@@ -29,8 +29,8 @@ pub(crate) fn next_line<'g, R: Wait>(
     ensures work { HasWork seat.new.me.0 result }
 {
     let before = line_of(&done);
-    give_back(rt, lock, seat, done);
-    if let Some(work) = find(rt, lock, seat, graph, &notes.later, search) {
+    give_back(rt, lock, seat, notes, done);
+    if let Some(work) = find(rt, lock, seat, graph, notes, search) {
         if may_let_more_run(graph, before, work.line()) {
             notes.waiting.tell();
         }
@@ -56,7 +56,7 @@ fn wait_for_line<'g, R: Wait>(
     for _look in rt.forever() {
         spin();
         let seen = notes.waiting.announce();
-        if let Some(work) = find(rt, lock, seat, graph, &notes.later, search) {
+        if let Some(work) = find(rt, lock, seat, graph, notes, search) {
             notes.waiting.withdraw();
             notes.waiting.tell();
             return Some(work);

@@ -1,6 +1,7 @@
 //! What workers tell each other outside the lock.
 
 use crate::later_lines::LaterLines;
+use crate::sleepers::Sleepers;
 use idle_workers::Waiting;
 use index_spaces::NoMemory;
 use std::alloc::Global;
@@ -10,6 +11,7 @@ use std::alloc::Global;
 pub(crate) struct Notes {
     pub(crate) waiting: Waiting,
     pub(crate) later: LaterLines,
+    pub(crate) sleepers: Sleepers,
 }
 
 impl Notes {
@@ -19,6 +21,7 @@ impl Notes {
         Ok(Notes {
             waiting: Waiting::new(),
             later,
+            sleepers: Sleepers::none(),
         })
     }
 }

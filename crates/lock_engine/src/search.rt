@@ -6,6 +6,7 @@ ghost use Rattle.lock_engine.specs.Seats.{IsWaiting, IsIdle, KeepsPlace, HasWork
 use crate::calls::{attempt, issue, next_woken, put_back};
 use crate::later_lines::LaterLines;
 use crate::lock::{Lock, LockSeat};
+use crate::notes::Notes;
 use graph_model::graph::Graph;
 use run_core::{Attempt, Finished, Issue, Work};
 use std::sync::Wait;
@@ -34,6 +35,7 @@ pub(crate) fn give_back<'g, R: Wait>(
     rt: &R,
     lock: &Lock<'g>,
     seat: &mut LockSeat<'g>,
+    notes: &Notes,
     done: Option<Finished>,
 )
     requires waiting { IsWaiting lock.now.table_id seat.old }
@@ -42,7 +44,7 @@ pub(crate) fn give_back<'g, R: Wait>(
     ensures idle { seat.new.me.0.line ≡ None }
 {
     if let Some(finished) = done {
-        put_back(rt, lock, seat, finished);
+        put_back(rt, lock, &notes.sleepers, seat, finished);
     }
 }
 
@@ -53,7 +55,7 @@ pub(crate) fn find<'g, R: Wait>(
     lock: &Lock<'g>,
     seat: &mut LockSeat<'g>,
     graph: &Graph,
-    later: &LaterLines,
+    notes: &Notes,
     search: &mut Search,
 ) -> Option<Work>
     requires idle { IsIdle lock.now.table_id seat.old }
@@ -61,13 +63,13 @@ pub(crate) fn find<'g, R: Wait>(
     ensures place { KeepsPlace lock.now.table_id seat.old seat.new }
     ensures work { HasWork seat.new.me.0 result }
 {
-    if let Some(work) = take_new(rt, lock, seat, graph, later, search) {
+    if let Some(work) = take_new(rt, lock, seat, graph, notes, search) {
         return Some(work);
     }
-    if let Some(work) = take_woken(rt, lock, seat, graph, later) {
+    if let Some(work) = take_woken(rt, lock, seat, graph, notes) {
         return Some(work);
     }
-    take_later(rt, lock, seat, graph, later, search)
+    take_later(rt, lock, seat, graph, notes, search)
 }
 
 /// Issues lines, and tries each.
@@ -76,7 +78,7 @@ fn take_new<'g, R: Wait>(
     lock: &Lock<'g>,
     seat: &mut LockSeat<'g>,
     graph: &Graph,
-    later: &LaterLines,
+    notes: &Notes,
     search: &mut Search,
 ) -> Option<Work>
     requires idle { IsIdle lock.now.table_id seat.old }
@@ -85,9 +87,9 @@ fn take_new<'g, R: Wait>(
     ensures work { HasWork seat.new.me.0 result }
 {
     for _turn in 0..graph.lines() {
-        let line = next_new(rt, lock, seat, search)?;
-        note_above(graph, later, line);
-        if let Some(work) = take(rt, lock, seat, later, line) {
+        let line = next_new(rt, lock, seat, notes, search)?;
+        note_above(graph, &notes.later, line);
+        if let Some(work) = take(rt, lock, seat, notes, line) {
             return Some(work);
         }
     }
@@ -99,6 +101,7 @@ fn next_new<'g, R: Wait>(
     rt: &R,
     lock: &Lock<'g>,
     seat: &mut LockSeat<'g>,
+    notes: &Notes,
     search: &mut Search,
 ) -> Option<u32>
     requires idle { IsIdle lock.now.table_id seat.old }
@@ -109,7 +112,7 @@ fn next_new<'g, R: Wait>(
     if search.all_issued {
         return None;
     }
-    match issue(rt, lock, seat) {
+    match issue(rt, lock, &notes.sleepers, seat) {
         Issue::Issued(line) => Some(line),
         Issue::All => {
             search.all_issued = true;
@@ -137,7 +140,7 @@ fn take_woken<'g, R: Wait>(
     lock: &Lock<'g>,
     seat: &mut LockSeat<'g>,
     graph: &Graph,
-    later: &LaterLines,
+    notes: &Notes,
 ) -> Option<Work>
     requires idle { IsIdle lock.now.table_id seat.old }
     requires graph { seat.old.me.0.core.graph ≡ graph.now }
@@ -145,8 +148,8 @@ fn take_woken<'g, R: Wait>(
     ensures work { HasWork seat.new.me.0 result }
 {
     for _turn in 0..graph.lines() {
-        let line = next_woken(rt, lock, seat)?;
-        if let Some(work) = take(rt, lock, seat, later, line) {
+        let line = next_woken(rt, lock, &notes.sleepers, seat)?;
+        if let Some(work) = take(rt, lock, seat, notes, line) {
             return Some(work);
         }
     }
@@ -159,7 +162,7 @@ fn take<'g, R: Wait>(
     rt: &R,
     lock: &Lock<'g>,
     seat: &mut LockSeat<'g>,
-    later: &LaterLines,
+    notes: &Notes,
     line: u32,
 ) -> Option<Work>
     requires idle { IsIdle lock.now.table_id seat.old }
@@ -167,10 +170,10 @@ fn take<'g, R: Wait>(
     ensures place { KeepsPlace lock.now.table_id seat.old seat.new }
     ensures work { HasWork seat.new.me.0 result }
 {
-    match attempt(rt, lock, seat, line) {
+    match attempt(rt, lock, &notes.sleepers, seat, line) {
         Attempt::Taken(work) => Some(work),
         Attempt::Busy(_) => {
-            later.add(line);
+            notes.later.add(line);
             None
         }
         _ => None,
@@ -184,7 +187,7 @@ fn take_later<'g, R: Wait>(
     lock: &Lock<'g>,
     seat: &mut LockSeat<'g>,
     graph: &Graph,
-    later: &LaterLines,
+    notes: &Notes,
     search: &mut Search,
 ) -> Option<Work>
     requires idle { IsIdle lock.now.table_id seat.old }
@@ -196,7 +199,7 @@ fn take_later<'g, R: Wait>(
     for _turn in 0..words {
         let word = if search.word < words { search.word } else { 0 };
         search.word = word + 1;
-        if let Some(work) = take_noted(rt, lock, seat, graph, later, word) {
+        if let Some(work) = take_noted(rt, lock, seat, graph, notes, word) {
             return Some(work);
         }
     }
@@ -209,7 +212,7 @@ fn take_noted<'g, R: Wait>(
     lock: &Lock<'g>,
     seat: &mut LockSeat<'g>,
     graph: &Graph,
-    later: &LaterLines,
+    notes: &Notes,
     word: u32,
 ) -> Option<Work>
     requires idle { IsIdle lock.now.table_id seat.old }
@@ -218,7 +221,7 @@ fn take_noted<'g, R: Wait>(
     ensures place { KeepsPlace lock.now.table_id seat.old seat.new }
     ensures work { HasWork seat.new.me.0 result }
 {
-    let mut noted = later.noted(word);
+    let mut noted = notes.later.noted(word);
     let lines = graph.lines();
     for _turn in 0..64u32 {
         if noted == 0 {
@@ -229,7 +232,7 @@ fn take_noted<'g, R: Wait>(
         if line >= lines {
             continue;
         }
-        if let Some(work) = take_again(rt, lock, seat, later, line) {
+        if let Some(work) = take_again(rt, lock, seat, notes, line) {
             return Some(work);
         }
     }
@@ -244,7 +247,7 @@ fn take_again<'g, R: Wait>(
     rt: &R,
     lock: &Lock<'g>,
     seat: &mut LockSeat<'g>,
-    later: &LaterLines,
+    notes: &Notes,
     line: u32,
 ) -> Option<Work>
     requires idle { IsIdle lock.now.table_id seat.old }
@@ -252,18 +255,18 @@ fn take_again<'g, R: Wait>(
     ensures place { KeepsPlace lock.now.table_id seat.old seat.new }
     ensures work { HasWork seat.new.me.0 result }
 {
-    match attempt(rt, lock, seat, line) {
+    match attempt(rt, lock, &notes.sleepers, seat, line) {
         Attempt::Taken(work) => {
-            later.remove(line);
+            notes.later.remove(line);
             Some(work)
         }
         Attempt::Busy(_) => None,
         Attempt::NotYet(_) => {
-            later.remove(line);
-            take(rt, lock, seat, later, line)
+            notes.later.remove(line);
+            take(rt, lock, seat, notes, line)
         }
         _ => {
-            later.remove(line);
+            notes.later.remove(line);
             None
         }
     }

@@ -5,7 +5,7 @@ ghost use Rattle.graph_meaning.specs.Evaluation.{outcome};
 ghost use Rattle.graph_meaning.specs.Trace.{IsLawful};
 
 use command_line::request::{Engine, HintKind, MAX_SLOTS, MAX_WORKERS, Request};
-use free_engine::{HintQueue, Round, run_free};
+use free_engine::{HintQueue, run_free};
 use graph_model::graph::Graph;
 use graph_terms::outcome::Outcome;
 use home_queues::HomeQueues;
@@ -13,6 +13,7 @@ use index_spaces::NoMemory;
 use lock_engine::{Turn, run_turn};
 use race_check::checked::Checked;
 use realm_io::Gate;
+use run_core::Core;
 use run_words::Words;
 use std::alloc::Global;
 use std::sync::Wait;
@@ -39,9 +40,7 @@ pub(crate) fn run_graph<R: Threads + Wait + Sync, G: Gate>(
     let slots = slots_for(request.slots, checked.need());
     match request.engine {
         Engine::Lock => run_by_turns(rt, alloc, checked, slots, request.workers, gate),
-        Engine::Words if request.workers == 0 || lines == 0 => {
-            run_alone(rt, alloc, checked, slots, gate)
-        }
+        Engine::Words if request.workers == 0 || lines == 0 => { run_alone(alloc, checked, slots) }
         Engine::Words => match request.hints {
             HintKind::Queue => run_in_words(rt, alloc, checked, slots, request.workers, gate),
             HintKind::Homes => run_with_homes(rt, alloc, checked, slots, request.workers, gate),
@@ -82,22 +81,16 @@ fn run_by_turns<R: Threads + Wait + Sync, G: Gate>(
     Ok(run_turn(rt, turn, workers, gate))
 }
 
-/// Runs a graph in words by the caller alone.
-fn run_alone<R: Threads + Wait + Sync, G: Gate>(
-    rt: &R,
-    alloc: Global,
-    checked: &Checked,
-    slots: u32,
-    gate: &G,
-) -> Result<Outcome, NoMemory>
+/// Runs a graph by the caller alone, on a core that nobody else uses.
+fn run_alone(alloc: Global, checked: &Checked, slots: u32) -> Result<Outcome, NoMemory>
     requires slots { (checked.now.need ≤ slots) × (slots ≤ MAX_SLOTS) }
     ensures outcome { IfOk result (λ o. o ≡ outcome checked.now.graph o.trace) }
     ensures lawful { IfOk result (λ o. IsLawful checked.now.graph o.trace) }
     ensures lines { IfOk result (λ o. (k i : ℕ) → slice_get o.trace k ≡ Some i → i < length checked.now.graph.lines) }
 {
-    let mut none: [Round; 0] = [];
-    let (words, seat) = Words::prepare(alloc, checked, slots)?;
-    Ok(run_free(rt, words, seat, gate, &mut none))
+    let mut core = Core::prepare(alloc, checked, slots)?;
+    core.finish();
+    Ok(core.outcome())
 }
 
 /// Runs a graph by workers that share its words, and tell each other of lines by a queue.

@@ -18,7 +18,7 @@ use graph_terms::verb::{Line, Verb};
 use graph_writer::{put_column_name, put_interval};
 use index_spaces::column::Column;
 use index_spaces::limits::MAX_POINTS_OF_THREE;
-use itoa::Buffer;
+use itoa::{Buffer, write_digits};
 use realm_io::{Sink, WriteFault, put_bytes};
 
 /// What stands behind the name of an operation in its line: one piece, since a report has a line for each operation.
@@ -86,7 +86,7 @@ fn put_if_phase<K: Sink>(sink: &mut K, line: &Line, value: Option<u64>) -> Resul
 {
     match line.verb {
         Verb::Phase { .. } => put_phase(sink, line, value),
-        _ => put_bytes(sink, b""),
+        _ => Ok(()),
     }
 }
 
@@ -116,12 +116,16 @@ fn put_interval_front<K: Sink>(
     put_interval(sink, interval.0, interval.1)
 }
 
-/// Writes a cell and the space before it.
-fn put_cell<K: Sink>(sink: &mut K, buffer: &mut Buffer, cell: u64) -> Result<(), WriteFault>
+/// How many bytes a cell and the space before it have at most.
+const CELL: usize = 21;
+
+/// Writes a cell and the space before it, in one piece, since there may be millions of them.
+fn put_cell<K: Sink>(sink: &mut K, text: &mut [u8; CELL], cell: u64) -> Result<(), WriteFault>
     ensures { Writes (K.state sink.old) (K.state sink.new) result (32 ∷ decimal cell) }
 {
-    put_bytes(sink, b" ")?;
-    put_bytes(sink, buffer.format(cell).as_bytes())
+    let start = write_digits(cell, text, CELL) - 1;
+    text[start] = b' ';
+    put_bytes(sink, &text[start..])
 }
 
 /// Writes the cells of the points of these ranks, each with a space before it.
@@ -133,10 +137,9 @@ fn put_cells<K: Sink>(sink: &mut K, column: &Column, first: u64, end: u64) -> Re
         (flat_map (λ v. 32 ∷ decimal v) (take (end - first) (drop first column.now.cells))) }
 {
     let _ = column.space().size();
-    // one for all cells, since there may be millions of them
-    let mut buffer = Buffer::new();
+    let mut text = [0; CELL];
     for rank in first..end {
-        put_cell(sink, &mut buffer, column.at(rank as u32))?;
+        put_cell(sink, &mut text, column.at(rank as u32))?;
     }
     Ok(())
 }

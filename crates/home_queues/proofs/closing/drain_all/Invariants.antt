@@ -10,7 +10,7 @@ invariant-loop-owner l = record {
   shares : AllHave 9 l.owners.items;
   within : length l.owners.items ≤ 8;
   len : length l.left.each ≡ l.lines;
-  all : l.left.all + 131072 * length l.owners.items ≤ 1048576;
+  all : l.left.all + 1152921504606846976 * length l.owners.items ≤ 9223372036854775808;
   counted : (x : ℕ) → x < l.lines → (slice_index l.left.each x + total (put_by (only x)) l.owners.items) + total (taken_by (only x)) l.initial.owners.items ≡ total (taken_by (only x)) l.owners.items + total (put_by (only x)) l.initial.owners.items;
 }
 

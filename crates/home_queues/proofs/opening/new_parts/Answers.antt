@@ -1,7 +1,7 @@
 use Rattle.std.proofs.Common.{◌≡◌, ℕ, length, ap, refl, sym, ◌∙◌, subst, arith}
 use Rattle.home_queues.specs.Counts.{CountsValue}
 use Rattle.home_queues.specs.Parts.{Owner}
-use Rattle.home_queues.specs.declared.empty_count.EmptyCount.{EmptyCount}
+use Rattle.home_queues.specs.declared.deque_counts.DequeCounts.{DequeCounts}
 use Rattle.home_queues.specs.Opening.{IsFresh}
 use Rattle.home_queues.proofs.Opened.{drop_first, last_row, new_part, parts_grow, none_left}
 use Rattle.home_queues.proofs.opening.new_parts.Goals as goal
@@ -20,7 +20,7 @@ loop-own-preserved c =
     let row = last_row n c.loop-own.number c.args.owners.items c.loop-own.own-iterator.rest.items c.loop-own.rows.items c.pop.new.self.items c.loop-own.parts.items c.in-Some-pop.rights o c.in-Some-pop.ensures.items in
     parts_grow n c.loop-own.number c.args.owners.items c.loop-own.own-iterator.rest.items c.next.new.self.rest.items c.loop-own.rows.items c.pop.new.self.items c.loop-own.parts.items c.push.new.self.items c.in-Some.own c.in-Some-pop.rights _
     o c.requires.owners.0 c.in-Some.ensures.steps.0 c.in-Some-pop.ensures.items c.in_ok-push.ensures.items (record { deques_are = row.deques_are; number = refl; lines = refl })
-    (ap (λ (k : CountsValue). k.each) c.in_ok-pushed.ensures, ap (λ (k : CountsValue). k.all) c.in_ok-pushed.ensures, ap (λ (k : CountsValue). k.each) c.in_ok-taken.ensures, ap (λ (k : CountsValue). k.all) c.in_ok-taken.ensures, ap (λ (f : EmptyCount). f.count) c.none.ensures)
+    (ap (λ (k : CountsValue). k.each) c.in_ok-pushed.ensures, ap (λ (k : CountsValue). k.all) c.in_ok-pushed.ensures, ap (λ (k : CountsValue). k.each) c.in_ok-taken.ensures, ap (λ (k : CountsValue). k.all) c.in_ok-taken.ensures, ap (λ (f : DequeCounts). f.empty) c.none.ensures, ap (λ (f : DequeCounts). f.full) c.none.ensures)
 
 pub returns-clause-list : goal.returns-clause-list
 returns-clause-list c =

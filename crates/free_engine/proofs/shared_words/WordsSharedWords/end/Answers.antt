@@ -1,5 +1,3 @@
-use Rattle.std.proofs.Common.{ap, ◌∙◌, ◌++◌}
-use Rattle.run_words.specs.Words.{numbers_of, splits_of}
 use Rattle.free_engine.proofs.shared_words.WordsSharedWords.end.Goals as goal
 
 pub put_back-requires-clause-finished : goal.put_back-requires-clause-finished
