@@ -1,0 +1,201 @@
+-- Pieces cut their graph.
+use Rattle.std.proofs.Common.{◌≡◌, ℕ, zero, suc, ◌+◌, ◌-◌, ◌<◌, ◌≤◌, Bool, true, false, cond, inl, inr, List, [], ◌∷◌, ◌++◌, length, get_or, refl, sym, ◌∙◌, ap, subst, arith, append-nil}
+use Rattle.std.specs.Prelude.{Option, Some, None, Contains, option_map, slice_get, filter, filter_map, flat_map, position, find, ◌==◌}
+use Rattle.std.specs.Option.{option_map_or}
+use Rattle.std.specs.List.{position_from, cons_option}
+use Rattle.std.proofs.lemmas.Bool.{true≢false, cases_eq, cases_lt, and_parts, and_from, eq-eqb, eqb-true}
+use Rattle.std.proofs.lemmas.Option.{none-some, same_Some, slice_get-get_or, slice_get_past}
+use Rattle.std.proofs.lemmas.List.Elements.{filter_map-append, Contains-get_or}
+use Rattle.std.proofs.lemmas.List.Quantifiers.{position-Some}
+use Rattle.std.proofs.lemmas.Iterator.Adapters.{position_from-zero}
+use Rattle.std.proofs.lemmas.Grind.{flat_map-append}
+use Rattle.basics.proofs.ListFacts.{contains_here, contains_there, find_is, find_none}
+use Rattle.index_spaces.specs.Space.{has_point, points, point_at}
+use Rattle.index_spaces.proofs.Public.{points_are_listed}
+use Rattle.graph_terms.specs.declared.decl.Decl.{Decl}
+use Rattle.graph_terms.specs.declared.decl.Decl.TheVariants.{Space, Inst, Data, Lock, Barrier}
+use Rattle.graph_terms.specs.declared.decl.ColumnInfo.{ColumnInfo}
+use Rattle.graph_terms.specs.declared.verb.Access.{Access}
+use Rattle.graph_terms.specs.Fits.{IsGraph}
+use Rattle.graph_terms.specs.Graph.{GraphValue, space_of, barrier_of, columns_of, named_spaces, barriers, columns, column_space, space_at}
+use Rattle.graph_terms.specs.Access.{accesses}
+use Rattle.graph_meaning.proofs.Public.{columns_differ}
+use Rattle.column_pieces.specs.Cut.{IsCut}
+use Rattle.column_pieces.specs.Pieces.{has_cell, piece_at, column_at, cut_of, piece_decls, is_kept, graph_of_pieces, ArePieces}
+use Rattle.column_pieces.specs.declared.pieces.Piece.{Piece}
+use Rattle.column_pieces.specs.Laws.{PiecesCut}
+
+-- DECLARATIONS
+kept_none : {X : Type 0} (f : Decl → Option X) → ((n : List ℕ) (s : ℕ) (fs : List (List ℕ)) → f (Inst n s fs) ≡ None) → (ds : List Decl) → filter_map f (filter is_kept ds) ≡ filter_map f ds
+kept_none f h [] = refl
+kept_none f h (Space n s ∷ ds) = ap (cons_option (f (Space n s))) (kept_none f h ds)
+kept_none f h (Inst n s fs ∷ ds) = kept_none f h ds ∙ sym (ap (λ o. cons_option o (filter_map f ds)) (h n s fs))
+kept_none f h (Data n s fs ∷ ds) = ap (cons_option (f (Data n s fs))) (kept_none f h ds)
+kept_none f h (Lock n ∷ ds) = ap (cons_option (f (Lock n))) (kept_none f h ds)
+kept_none f h (Barrier n k o v ∷ ds) = ap (cons_option (f (Barrier n k o v))) (kept_none f h ds)
+
+none_of_pieces : {X : Type 0} (f : Decl → Option X) → ((n : List ℕ) (s : ℕ) (fs : List (List ℕ)) → f (Inst n s fs) ≡ None) → (k : ℕ) (xs : List Piece) → filter_map f (piece_decls k xs) ≡ []
+none_of_pieces f h k [] = refl
+none_of_pieces f h k (x ∷ xs) = ap (λ o. cons_option o (filter_map f (piece_decls (k + 1) xs))) (h _ _ _) ∙ none_of_pieces f h (k + 1) xs
+
+same_items : {X : Type 0} (f : Decl → Option X) → ((n : List ℕ) (s : ℕ) (fs : List (List ℕ)) → f (Inst n s fs) ≡ None) → (ds : List Decl) (xs : List Piece) →
+    filter_map f (filter is_kept ds ++ piece_decls 0 xs) ≡ filter_map f ds
+same_items f h ds xs =
+    filter_map-append f (filter is_kept ds) (piece_decls 0 xs)
+    ∙ (ap (λ ys. filter_map f (filter is_kept ds) ++ ys) (none_of_pieces f h 0 xs) ∙ (append-nil (filter_map f (filter is_kept ds)) ∙ kept_none f h ds))
+
+no_columns : (ds : List Decl) → flat_map columns_of (filter is_kept ds) ≡ []
+no_columns [] = refl
+no_columns (Space n s ∷ ds) = no_columns ds
+no_columns (Inst n s fs ∷ ds) = no_columns ds
+no_columns (Data n s fs ∷ ds) = no_columns ds
+no_columns (Lock n ∷ ds) = no_columns ds
+no_columns (Barrier n k o v ∷ ds) = no_columns ds
+
+piece_columns : (ds : List Decl) (xs : List Piece) → flat_map columns_of (filter is_kept ds ++ piece_decls 0 xs) ≡ flat_map columns_of (piece_decls 0 xs)
+piece_columns ds xs = flat_map-append columns_of (filter is_kept ds) (piece_decls 0 xs) ∙ ap (λ ys. ys ++ flat_map columns_of (piece_decls 0 xs)) (no_columns ds)
+
+columns_number : (k : ℕ) (xs : List Piece) → length (flat_map columns_of (piece_decls k xs)) ≡ length xs
+columns_number k [] = refl
+columns_number k (x ∷ xs) = ap suc (columns_number (k + 1) xs)
+
+column_got : (k : ℕ) (xs : List Piece) (j : ℕ) → option_map (λ (y : ColumnInfo). y.space) (slice_get (flat_map columns_of (piece_decls k xs)) j) ≡ option_map (λ (x : Piece). x.space) (slice_get xs j)
+column_got k [] j = refl
+column_got k (x ∷ xs) zero = refl
+column_got k (x ∷ xs) (suc j) = column_got (k + 1) xs j
+
+-- POSITIONS
+position_same : {X : Type 0} (s t : X → Bool) (xs : List X) (k : ℕ) → ((x : X) → Contains xs x → s x ≡ t x) → position_from s k xs ≡ position_from t k xs
+position_same s t [] k h = refl
+position_same s t (x ∷ xs) k h =
+    ap (λ b. cond b (Some k) (position_from s (k + 1) xs)) (h x (contains_here x xs))
+    ∙ ap (cond (t x) (Some k)) (position_same s t xs (k + 1) (λ y m. h y (contains_there x xs y m)))
+
+positions_same : {X : Type 0} (s t : X → Bool) (xs : List X) → ((x : X) → Contains xs x → s x ≡ t x) → position s xs ≡ position t xs
+positions_same s t xs h = position_from-zero s xs ∙ (position_same s t xs 0 h ∙ sym (position_from-zero t xs))
+
+same_test : (b d : Bool) → (b ≡ true → d ≡ true) → (d ≡ true → b ≡ true) → b ≡ d
+same_test true d f h = sym (f refl)
+same_test false true f h = h refl
+same_test false false f h = refl
+
+abbrev no_piece : Piece
+no_piece = record { column = 0; space = 0 }
+
+below_from : (a b : ℕ) → b ≤ a → (a ≡ b → ⊥) → b < a
+below_from a b le n = elim (cases_lt b a) [
+  | inl below ↦ below
+  | inr above ↦ absurd (n (omega arith))
+]
+
+-- a line accesses a column once
+one_access : (g : GraphValue) → IsGraph g → (i : ℕ) (a b : Access) → Contains (accesses g i) a → Contains (accesses g i) b → a.column ≡ b.column → a ≡ b
+one_access g fits i a b ka kb same = by_order
+  where
+    got_a : slice_get (accesses g i) ka.0 ≡ Some a
+    got_a = slice_get-get_or (accesses g i) ka.0 a ka.1 ∙ ap (λ x. Some x) ka.2
+
+    got_b : slice_get (accesses g i) kb.0 ≡ Some b
+    got_b = slice_get-get_or (accesses g i) kb.0 b kb.1 ∙ ap (λ x. Some x) kb.2
+
+    at_one : ka.0 ≡ kb.0 → a ≡ b
+    at_one e = same_Some a b (sym got_a ∙ (ap (slice_get (accesses g i)) e ∙ got_b))
+
+    by_order : a ≡ b
+    by_order = elim (cases_eq ka.0 kb.0) [
+      | inl e ↦ at_one e
+      | inr n ↦ elim (cases_lt ka.0 kb.0) [
+        | inl below ↦ absurd (columns_differ g i ka.0 kb.0 a b fits below got_a got_b same)
+        | inr past ↦ (let above : kb.0 < ka.0 = below_from ka.0 kb.0 past n in absurd (columns_differ g i kb.0 ka.0 b a fits above got_b got_a (sym same)))
+      ]
+    ]
+
+module _ (g : GraphValue) (pieces : List Piece) (fits : IsGraph g) (are : ArePieces g pieces) where
+  abbrev h : GraphValue
+  h = graph_of_pieces g pieces
+
+  same_spaces : named_spaces h ≡ named_spaces g
+  same_spaces = same_items space_of (λ n s fs. refl) g.decls pieces
+
+  same_barriers : barriers h ≡ barriers g
+  same_barriers = same_items barrier_of (λ n s fs. refl) g.decls pieces
+
+  space_same : (s : ℕ) → space_at h s ≡ space_at g s
+  space_same s = ap (λ (xs : List (List ℕ × List (ℕ × ℕ))). option_map_or (λ x. x.1) (slice_get xs s) []) same_spaces
+
+  -- the piece that has a cell, if any
+  piece_by : (c p : ℕ) (k : ℕ) → position (has_cell g c p) pieces ≡ Some k → (x : Piece) × (slice_get pieces k ≡ Some x) × (x.column ≡ c) × (has_point (space_at g x.space) p ≡ true)
+  piece_by c p k e =
+      let s = position-Some (has_cell g c p) pieces k no_piece e in
+      let parts = and_parts _ _ s.1 in
+      (get_or pieces k no_piece, slice_get-get_or pieces k no_piece s.0, eqb-true _ c parts.0, parts.1)
+
+  past_column : (c : ℕ) → column_at pieces (length pieces + c) ≡ c
+  past_column c =
+      ap (λ o. option_map_or (λ (x : Piece). x.column) o (length pieces + c - length pieces)) (slice_get_past pieces (length pieces + c) (omega arith))
+      ∙ (let e : length pieces + c - length pieces ≡ c = omega arith in e)
+
+  cell_by : (c p : ℕ) (o : Option ℕ) → position (has_cell g c p) pieces ≡ o → column_at pieces (option_map_or (λ k. k) o (length pieces + c)) ≡ c
+  cell_by c p None e = past_column c
+  cell_by c p (Some k) e = let x = piece_by c p k e in ap (λ o. option_map_or (λ (y : Piece). y.column) o (k - length pieces)) x.1 ∙ x.2
+
+  cell : (c p : ℕ) → column_at pieces (piece_at g pieces c p) ≡ c
+  cell c p = cell_by c p (position (has_cell g c p) pieces) refl
+
+  use_by : (i c : ℕ) (o : Option Access) → column_at pieces (option_map_or (λ (a : Access). piece_at g pieces c (point_at (space_at g a.space) 0)) o (length pieces + c)) ≡ c
+  use_by i c None = past_column c
+  use_by i c (Some a) = cell c (point_at (space_at g a.space) 0)
+
+  has_by : (c p : ℕ) (o : Option ℕ) → position (has_cell g c p) pieces ≡ o → option_map_or (λ k. k) o (length pieces + c) < length (columns h) →
+      has_point (column_space h (option_map_or (λ k. k) o (length pieces + c))) p ≡ true
+  has_by c p None e below =
+      let size : length (columns h) ≡ length pieces = ap length (piece_columns g.decls pieces) ∙ columns_number 0 pieces in
+      let less : length pieces + c < length (columns h) = below in
+      absurd (omega (arith, size, less))
+  has_by c p (Some k) e below =
+      let x = piece_by c p k e in
+      ap (λ s. has_point s p) (space_of_piece (slice_get (columns h) k) (ap (λ xs. option_map (λ (y : ColumnInfo). y.space) (slice_get xs k)) (piece_columns g.decls pieces) ∙ (column_got 0 pieces k ∙ ap (option_map (λ (y : Piece). y.space)) x.1)) ∙ space_same x.0.space) ∙ x.3
+    where
+      space_of_piece : {s : ℕ} (o : Option ColumnInfo) → option_map (λ (y : ColumnInfo). y.space) o ≡ Some s → option_map_or (λ (y : ColumnInfo). space_at h y.space) o [] ≡ space_at h s
+      space_of_piece None e = absurd (none-some _ e)
+      space_of_piece (Some y) e = ap (space_at h) (same_Some _ _ e)
+
+  -- two points of one access are in one piece
+  one_piece : (i : ℕ) (a : Access) (p q : ℕ) → Contains (accesses g i) a → has_point (space_at g a.space) p ≡ true → has_point (space_at g a.space) q ≡ true →
+      piece_at g pieces a.column p ≡ piece_at g pieces a.column q
+  one_piece i a p q k hp hq =
+      let z = are.covers i a k in
+      let at : (r : ℕ) → has_point (space_at g a.space) r ≡ true → has_cell g a.column r z.0 ≡ true = λ r hr. and_from _ _ (eq-eqb z.0.column a.column z.2) (z.3 r hr) in
+      let both : (r s : ℕ) → has_point (space_at g a.space) r ≡ true → has_point (space_at g a.space) s ≡ true → (x : Piece) → Contains pieces x → has_cell g a.column r x ≡ true → has_cell g a.column s x ≡ true =
+      λ r s hr hs x m t. subst (λ y. has_cell g a.column s y ≡ true) (sym (are.apart x z.0 a.column r m z.1 t (at r hr))) (at s hs) in
+      ap (λ o. option_map_or (λ (k : ℕ). k) o (length pieces + a.column))
+      (positions_same (has_cell g a.column p) (has_cell g a.column q) pieces (λ x m. same_test (has_cell g a.column p x) (has_cell g a.column q x) (both p q hp hq x m) (both q p hq hp x m)))
+
+  first_point : (s : List (ℕ × ℕ)) (p : ℕ) → has_point s p ≡ true → has_point s (point_at s 0) ≡ true
+  first_point s p h =
+      let k = (points_are_listed s p).1 h in
+      let some : k.0 < length (points s) = k.1 in
+      (points_are_listed s (point_at s 0)).0 (Contains-get_or (points s) 0 0 (omega arith))
+
+  within_by : (i : ℕ) (a : Access) (p : ℕ) → Contains (accesses g i) a → has_point (space_at g a.space) p ≡ true → (o : Option Access) → find (λ (b : Access). b.column == a.column) (accesses g i) ≡ o →
+      piece_at g pieces a.column p ≡ option_map_or (λ (b : Access). piece_at g pieces a.column (point_at (space_at g b.space) 0)) o (length pieces + a.column)
+  within_by i a p k hp None e = absurd (true≢false (sym (eq-eqb a.column a.column refl) ∙ find_none (λ (b : Access). b.column == a.column) (accesses g i) e a k))
+  within_by i a p k hp (Some b) e =
+      let f = find_is (λ (x : Access). x.column == a.column) (accesses g i) b e in
+      let same : a ≡ b = one_access g fits i a b k f.0 (sym (eqb-true b.column a.column f.1)) in
+      one_piece i a p (point_at (space_at g a.space) 0) k hp (first_point (space_at g a.space) p hp)
+      ∙ ap (λ (x : Access). piece_at g pieces a.column (point_at (space_at g x.space) 0)) same
+
+  cuts : IsCut g (graph_of_pieces g pieces) (cut_of g pieces)
+  cuts = record {
+    lines = refl;
+    barriers = same_barriers;
+    spaces = λ i a k. space_same a.space;
+    within = λ i a p k hp. within_by i a p k hp (find (λ (b : Access). b.column == a.column) (accesses g i)) refl;
+    cell = cell;
+    use_of = λ i c. use_by i c (find (λ (b : Access). b.column == c) (accesses g i));
+    has = λ c p below. has_by c p (position (has_cell g c p) pieces) refl below;
+  }
+
+pub pieces_cut : PiecesCut
+pieces_cut g pieces fits are = cuts g pieces fits are

@@ -1,0 +1,9 @@
+pub mod examples
+pub mod Effects
+pub mod Lines
+pub mod Steps
+pub mod Outcomes
+pub mod Acceptance
+pub mod Cuts
+pub mod PiecesTable
+pub mod Components

@@ -1,0 +1,4 @@
+pub mod Cut
+pub mod Joined
+pub mod Pieces
+pub mod Laws

@@ -1,0 +1,5 @@
+//! Graphs whose columns are cut into pieces.
+#![tactic(auto)]
+
+pub mod laws;
+pub mod pieces;

@@ -1,0 +1,10 @@
+//! Pieces of columns.
+
+/// A piece of a column: its cells at the points of a declared space.
+#[derive(Clone, Copy, Debug, PartialEq, Eq)]
+pub struct Piece {
+    /// The number of the column.
+    pub column: u32,
+    /// The number of the space.
+    pub space: u32,
+}
