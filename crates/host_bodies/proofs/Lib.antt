@@ -3,3 +3,4 @@ pub mod Apart
 pub mod Comes
 pub mod Runs
 pub mod Ending
+pub mod Public

@@ -19,7 +19,7 @@ use Rattle.graph_meaning.specs.Laws.{KeepsToAccesses, IsReadyAmongWith, put_with
 use Rattle.graph_meaning.proofs.Public.{cells_after_at, cells_after_untouched}
 use Rattle.basics.proofs.ListFacts.{contains_none, filter_contains, filter_same, list_any_agree}
 use Rattle.host_bodies.specs.Host.{HostRun, over, begun, uses, may_change, IsDue, MayTake, taken, ChangesOwn, with_memory, cancelled_in, done_by, HasDone, put_back}
-use Rattle.host_bodies.specs.Laws.{cells_so_far, Agrees}
+use Rattle.host_bodies.specs.Laws.{cells_so_far, Agrees, StepsChangeOwn}
 use Rattle.host_bodies.proofs.Cells.{Covered, used_by, changed_by, is_reduced, changed_is_used, changes_only}
 use Rattle.host_bodies.proofs.Apart.{IsOpen, both_reduce}
 use Rattle.host_bodies.proofs.Comes.{ends_there}
@@ -61,6 +61,9 @@ made_untouched c p Fault xs u = λ x listed. absurd (contains_none x listed)
 step_untouched : (c p i : ℕ) (b : Bool) (e : Effect) → Untouched c p e.changes → Untouched c p (step_by i b e).changes
 step_untouched c p i true e u = λ x listed. absurd (contains_none x listed)
 step_untouched c p i false e u = made_untouched c p e.verdict e.changes u
+
+pub steps_change_own : StepsChangeOwn
+steps_change_own g does keeps i b cells c p e = step_untouched c p i b (does i cells) (changes_only g does keeps i cells c p e)
 
 module _ (order : OrderIrrelevantWith) (waits : WaitsWhereReachedWith) (g : GraphValue) (fits : IsGraph g) (accepted : Accepted g) (does : Effects) (keeps : KeepsToAccesses g does) (first : Cells) where
   -- THE BEGINNING

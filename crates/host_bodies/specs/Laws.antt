@@ -1,10 +1,10 @@
 -- What holds of each run of an accepted graph by a host whose bodies keep to their accesses.
-use Rattle.std.specs.Prelude.{◌≡◌, ◌≢◌, ℕ, ◌⊎◌, true, false}
+use Rattle.std.specs.Prelude.{◌≡◌, ◌≢◌, ℕ, ◌⊎◌, Bool, true, false}
 use Rattle.graph_terms.specs.Graph.{GraphValue}
 use Rattle.graph_terms.specs.Fits.{IsGraph}
 use Rattle.graph_meaning.specs.Rules.{Accepted}
-use Rattle.graph_meaning.specs.Effect.{Cells, Effects}
-use Rattle.graph_meaning.specs.Evaluation.{is_ended, evaluation_with, end_with, cells_with}
+use Rattle.graph_meaning.specs.Effect.{Cells, Effects, Untouched}
+use Rattle.graph_meaning.specs.Evaluation.{is_ended, step_by, evaluation_with, end_with, cells_with}
 use Rattle.graph_meaning.specs.Laws.{KeepsToAccesses, cells_put_with, DoesAsEvaluatedWith}
 use Rattle.host_bodies.specs.Host.{HostRun, over, uses, may_change, IsDue, IsHostRun}
 
@@ -43,3 +43,7 @@ HostLeavesEvaluation = (g : GraphValue) (does : Effects) (first : Cells) (h : Ho
 abbrev pub HostGoesOn : Type 0
 HostGoesOn = (g : GraphValue) (does : Effects) (first : Cells) (h : HostRun) → IsGraph g → Accepted g → KeepsToAccesses g does → IsHostRun g does first h → ((k : ℕ) → h.out k ≡ false) →
     ((i : ℕ) × IsDue g h i) ⊎ HasAllEnded g does first h
+
+-- a line touches no cell but those that it may change
+abbrev pub StepsChangeOwn : Type 0
+StepsChangeOwn = (g : GraphValue) (does : Effects) → KeepsToAccesses g does → (i : ℕ) (b : Bool) (cells : Cells) (c p : ℕ) → may_change g i c p ≡ false → Untouched c p (step_by i b (does i cells)).changes

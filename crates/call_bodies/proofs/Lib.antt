@@ -1,0 +1,4 @@
+pub mod Cores
+pub mod Hosts
+pub mod Driven
+pub mod Ended

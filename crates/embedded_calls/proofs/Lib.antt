@@ -1,0 +1,4 @@
+mod ItemsFit
+mod CallAccepted
+mod BodiesFit
+mod Evaluated

@@ -1,0 +1,3 @@
+pub mod CallGraph
+pub mod Accounts
+pub mod Readings
