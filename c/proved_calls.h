@@ -47,7 +47,7 @@ void proved_realm_events_free(struct proved_held *held);
 
 /* realm_tasks_c: a window of tasks over pieces of memory, which are numbered from 0. A call that does not answer DONE changes nothing.
    new, add_pieces and insert answer NO_MEMORY too. */
-struct realm_piece { uint32_t first, count, writes; };   /* consecutive pieces that a task accesses */
+struct realm_piece { uint32_t first, count; _Bool writes; };   /* consecutive pieces that a task accesses */
 enum realm_window_status { REALM_WINDOW_DONE = 0, REALM_WINDOW_NONE = 4, REALM_WINDOW_NO_MEMORY = 7 };
 uint32_t proved_realm_window_new(struct proved_held *window);
 /* Adds pieces; `first` is the number of the first of them. RANGE where there would be too many. */

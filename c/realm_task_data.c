@@ -42,7 +42,7 @@ static int overlaps(const struct realm_data_table *data, const uint8_t *pointer,
     if (at < data->live && (size_t)(data->places[data->order[at]].pointer - pointer) < bytes) return 1;
     if (at == 0) return 0;
     const struct realm_datum *before = &data->places[data->order[at - 1]];
-    return (size_t)(pointer - before->pointer) < before->bytes;
+    return (size_t)(pointer - before->pointer) < realm_extent(before);
 }
 
 static int grow(void **list, size_t size, uint32_t count) {
@@ -188,7 +188,8 @@ static uint32_t add_pieces(struct realm_runtime *rt, struct realm_datum *datum) 
     if (datum->tiles > UINT32_MAX - data->pieces) return REALM_MISUSE_RANGE;
     uint32_t wanted = data->pieces + datum->tiles;
     if (wanted > data->lost_room) {
-        uint32_t room = wanted > 2 * (uint64_t)data->lost_room ? wanted : 2 * data->lost_room;
+        uint32_t room = data->lost_room > UINT32_MAX / 2 ? UINT32_MAX : 2 * data->lost_room;
+        if (room < wanted) room = wanted;
         if (!grow((void **)&data->lost, 1, room)) return REALM_NO_MEMORY_LEFT;
         data->lost_room = room;
     }
@@ -218,14 +219,19 @@ static uint32_t ends_of(size_t bytes, uint32_t count, const size_t *sizes, size_
     return end == bytes ? REALM_DID : REALM_MISUSE_RANGE;
 }
 
-/* What is lost of a datum, in any of its tiles. */
-static uint8_t lost_of(struct realm_runtime *rt, const struct realm_datum *datum) {
-    uint8_t lost = 0;
-    for (uint32_t k = 0; rt->has_lost && datum->has_pieces && k < datum->tiles; k++) lost |= rt->data.lost[datum->first + k];
-    return lost;
+/* What was lost of tiles is lost of those that have a byte of them, where the datum is cut anew. */
+static void carry_lost(struct realm_runtime *rt, const struct realm_datum *datum, const struct realm_datum *cut) {
+    uint32_t i = 0, k = 0;
+    if (!rt->has_lost || !datum->has_pieces) return;
+    while (k < cut->tiles) {
+        size_t end = realm_tile_at(datum, i + 1), cut_end = realm_tile_at(cut, k + 1);
+        rt->data.lost[cut->first + k] |= rt->data.lost[datum->first + i];
+        if (end <= cut_end) i++;
+        if (cut_end <= end) k++;
+    }
 }
 
-/* Cuts a datum that no task of the window names. What was lost of one of its tiles is lost of each then. */
+/* Cuts a datum that no task of the window names. */
 static uint32_t cut_datum(struct realm_runtime *rt, struct realm_datum *datum, uint32_t count, const size_t *sizes) {
     if (!count || count > datum->bytes) return REALM_MISUSE_RANGE;
     size_t *ends = malloc(count * sizeof *ends);
@@ -242,7 +248,7 @@ static uint32_t cut_datum(struct realm_runtime *rt, struct realm_datum *datum, u
         free(ends);
         return status;
     }
-    memset(rt->data.lost + cut.first, lost_of(rt, datum), count);
+    carry_lost(rt, datum, &cut);
     free_pieces(&rt->data, datum);
     free(datum->ends);
     if (rt->guard) free(datum->shadow);

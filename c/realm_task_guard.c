@@ -18,9 +18,10 @@
 #include <ucontext.h>
 #include <unistd.h>
 
-enum { MOST_GUARDS = 64 };
+/* Barred are so many ranges of pages at most: the system has no more than 65,530 mostly, and each makes two. */
+enum { MOST_GUARDS = 64, MOST_RANGES = 8192 };
 enum mark { NOT_DECLARED = 0, DECLARED_TO_READ = 1, DECLARED_TO_WRITE = 2 };
-/* NEVER: the system did not bar it. */
+/* NEVER: the system did not bar it, or too many others are barred. */
 enum bar { IS_OPEN = 0, BARS_WRITING = 1, BARS_ALL = 2, NEVER = 3 };
 
 struct realm_guard {
@@ -30,6 +31,7 @@ struct realm_guard {
     struct realm_task_fault *fault;   /* its first one */
     int is_undeclared;
     struct realm_guard *outer;        /* of the body in which this one performs, if any */
+    int is_blocked;                   /* the thread that waits blocks SIGSEGV elsewhere */
 };
 
 static pthread_mutex_t installing = PTHREAD_MUTEX_INITIALIZER;
@@ -127,7 +129,7 @@ static struct realm_datum *datum_at(const struct realm_data_table *data, const u
     }
     if (!low) return 0;
     struct realm_datum *datum = &data->places[data->order[low - 1]];
-    return (size_t)(address - datum->pointer) < (datum->mapped ? datum->mapped : datum->bytes) ? datum : 0;
+    return (size_t)(address - datum->pointer) < realm_extent(datum) ? datum : 0;
 }
 
 static uint32_t tile_at(const struct realm_datum *datum, size_t byte) {
@@ -164,19 +166,35 @@ static int open_at(struct realm_guard *guard, uint8_t *address, const void *cont
     return bars_of(datum)[tile] == IS_OPEN;
 }
 
-/* Hands a fault on that is none of a guard's. */
+/* Whether a signal was sent by raise or kill: then no access made it. */
+static int is_sent(const siginfo_t *info) { return info->si_code <= 0; }
+
+/* Hands a signal on that is none of a guard's. */
 static void hand_on(int number, siginfo_t *info, void *context) {
-    if (before.sa_flags & SA_SIGINFO) before.sa_sigaction(number, info, context);
-    else if (before.sa_handler != SIG_DFL && before.sa_handler != SIG_IGN) before.sa_handler(number);
-    else signal(number, SIG_DFL);   /* (the access is tried again, and ends the program) */
+    int is_ignored = !(before.sa_flags & SA_SIGINFO) && before.sa_handler == SIG_IGN;
+    if (before.sa_flags & SA_SIGINFO) {
+        before.sa_sigaction(number, info, context);
+    } else if (before.sa_handler != SIG_DFL && !is_ignored) {
+        before.sa_handler(number);
+    } else if (!is_ignored || !is_sent(info)) {
+        /* (an access is tried again, and ends the program; what was sent is sent again) */
+        signal(number, SIG_DFL);
+        if (is_sent(info)) raise(number);
+    }
+}
+
+/* Opens what a guard bars at the address of an access. Whether one does. */
+static int open_for(const siginfo_t *info, const void *context) {
+    for (struct realm_guard *it = performing; it; it = it->outer)
+        if (open_at(it, info->si_addr, context, 1)) return 1;
+    for (int i = 0; i < MOST_GUARDS; i++)
+        if (guards[i] && open_at(guards[i], info->si_addr, context, 0)) return 1;
+    return 0;
 }
 
 static void handle(int number, siginfo_t *info, void *context) {
-    int kept = errno, is_mine = 0;
-    for (struct realm_guard *it = performing; it && !is_mine; it = it->outer) is_mine = open_at(it, info->si_addr, context, 1);
-    for (int i = 0; i < MOST_GUARDS && !is_mine; i++)
-        if (guards[i]) is_mine = open_at(guards[i], info->si_addr, context, 0);
-    if (!is_mine) hand_on(number, info, context);
+    int kept = errno;
+    if (is_sent(info) || !open_for(info, context)) hand_on(number, info, context);
     errno = kept;
 }
 
@@ -214,12 +232,36 @@ void realm_guard_free(struct realm_runtime *rt) {
 
 static struct realm_datum *live_datum(struct realm_runtime *rt, uint32_t i) { return &rt->data.places[rt->data.order[i]]; }
 
+/* Bars the pages of a datum, as far as no more ranges are barred than may be. Tiles whose pages adjoin are one range. */
+static void bar_datum(const struct realm_datum *datum, uint32_t *ranges) {
+    const uint8_t *end = 0;
+    for (uint32_t k = 0; k < datum->tiles; k++) {
+        struct pages pages = pages_of(datum, k);
+        if (pages.from == pages.to) continue;
+        *ranges += pages.from != end;
+        end = pages.to;
+        if (*ranges <= MOST_RANGES) set_bar(datum, k, BARS_ALL);
+        else bars_of(datum)[k] = NEVER;
+    }
+}
+
+/* Blocks SIGSEGV in this thread, or not. Whether it did before. */
+static int block(int is_blocked) {
+    sigset_t set, was;
+    sigemptyset(&set);
+    sigaddset(&set, SIGSEGV);
+    pthread_sigmask(is_blocked ? SIG_BLOCK : SIG_UNBLOCK, &set, &was);
+    return sigismember(&was, SIGSEGV);
+}
+
 void realm_guard_begin(struct realm_runtime *rt) {
+    uint32_t ranges = 0;
     install();
+    rt->guard->is_blocked = block(0);
     for (uint32_t i = 0; i < rt->data.live; i++) {
         struct realm_datum *datum = live_datum(rt, i);
         memcpy(datum->shadow, datum->pointer, datum->bytes);
-        for (uint32_t k = 0; k < datum->tiles; k++) set_bar(datum, k, BARS_ALL);
+        bar_datum(datum, &ranges);
     }
     rt->guard->is_on = 1;
 }
@@ -230,6 +272,7 @@ void realm_guard_end(struct realm_runtime *rt) {
         struct realm_datum *datum = live_datum(rt, i);
         for (uint32_t k = 0; k < datum->tiles; k++) set_bar(datum, k, IS_OPEN);
     }
+    block(rt->guard->is_blocked);
 }
 
 /* Opens what a task declares, as far as it does. */

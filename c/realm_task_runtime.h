@@ -103,6 +103,9 @@ static inline void realm_unlock(struct realm_runtime *runtime) {
     if (runtime->is_shared) pthread_mutex_unlock(&runtime->lock);
 }
 
+/* How many bytes from the pointer of a datum on nothing else is in: its own, or those of its pages. */
+static inline size_t realm_extent(const struct realm_datum *datum) { return datum->mapped ? datum->mapped : datum->bytes; }
+
 /* Where tile k of a datum begins, from its pointer on; that of the one behind the last is its end. */
 static inline size_t realm_tile_at(const struct realm_datum *datum, uint32_t k) {
     return k == 0 ? 0 : datum->ends ? datum->ends[k - 1] : datum->bytes;

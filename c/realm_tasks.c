@@ -81,7 +81,7 @@ static uint32_t pop(struct realm_runtime *rt) {
 
 /* Takes all that is due. What is cancelled ends by that; what is lost ends so. */
 static void take_due(struct realm_runtime *rt) {
-    uint32_t task, is_cancelled;
+    uint32_t task = 0, is_cancelled = 0;
     while (proved_realm_window_take(&rt->window, &task, &is_cancelled) == REALM_WINDOW_DONE) {
         if (!is_cancelled && !rt->records[task].is_lost) {
             push(rt, task);
@@ -306,7 +306,7 @@ static int is_lost(struct realm_runtime *rt, const struct realm_record *record) 
 /* Puts a record at the end of the window. */
 static uint32_t add_record(struct realm_runtime *rt, struct realm_record *record) {
     struct signals signals = {0, 0};
-    uint32_t task;
+    uint32_t task = 0;
     realm_lock(rt);
     uint32_t status = proved_realm_window_insert(&rt->window, record->pieces, record->count, &task);
     if (status == REALM_DID) {
@@ -506,12 +506,16 @@ uint32_t realm_tasks_new(uint32_t workers, struct realm_tasks *tasks) {
 }
 
 static void end_workers(struct realm_runtime *rt) {
+    int cancels;
+    /* (a thread that is cancelled here would leave the runtime entered for good) */
+    pthread_setcancelstate(PTHREAD_CANCEL_DISABLE, &cancels);
     realm_lock(rt);
     rt->is_over = 1;
     atomic_store_explicit(&rt->hint, 2, memory_order_relaxed);
     pthread_cond_broadcast(&rt->work);
     realm_unlock(rt);
     while (rt->workers) pthread_join(rt->threads[--rt->workers], 0);
+    pthread_setcancelstate(cancels, &cancels);
 }
 
 uint32_t realm_tasks_free(struct realm_tasks *tasks) {

@@ -9,6 +9,7 @@
 #include <initializer_list>
 #include <map>
 #include <optional>
+#include <span>
 #include <string>
 #include <string_view>
 #include <type_traits>
@@ -175,13 +176,18 @@ struct Tasks : Handle<realm_tasks, realm_tasks_free> {
     }
     uint32_t free_data(realm_data &data) { return realm_data_free(&held, &data); }
     template <typename Body> uint32_t insert(std::initializer_list<realm_use> uses, const Body &body, uint64_t *number = nullptr) {
-        static_assert(std::is_trivially_copyable_v<Body> && sizeof(Body) <= REALM_MOST_VALUES && alignof(Body) <= 16);
+        return insert(std::span<const realm_use>(uses.begin(), uses.size()), body, number);
+    }
+    // The same with uses in a vector, an array or the like.
+    template <typename Body> uint32_t insert(std::span<const realm_use> uses, const Body &body, uint64_t *number = nullptr) {
+        static_assert(std::is_trivially_copyable_v<Body>, "a task is copied byte by byte: let it hold numbers and pointers, no strings or vectors");
+        static_assert(sizeof(Body) <= REALM_MOST_VALUES && alignof(Body) <= 16, "a task has at most 128 bytes");
         auto run = [](void *at) noexcept -> uint32_t {
             if constexpr (std::is_void_v<std::invoke_result_t<Body &>>) return (*static_cast<Body *>(at))(), 0;
             else return (*static_cast<Body *>(at))();
         };
         uint64_t task = 0;
-        uint32_t status = realm_insert_values(&held, run, &body, sizeof body, uses.begin(), uses.size(), &task);
+        uint32_t status = realm_insert_values(&held, run, &body, sizeof body, uses.data(), uses.size(), &task);
         if (number && !status) *number = task;
         return status;
     }

@@ -62,20 +62,24 @@ enum { REALM_MOST_WORKERS = 64, REALM_MOST_USES = 8, REALM_MOST_VALUES = 128, RE
 uint32_t realm_tasks_new(uint32_t workers, struct realm_tasks *tasks);
 
 /* Memory of the program as a datum: so many bytes, at least 1, from the pointer on. No byte is in two data of one runtime. DONE,
-   NO_MEMORY. Misuse: OVERLAP where a byte is in another datum; RANGE where there are no bytes, or none so high; FILLED. */
+   NO_MEMORY. Misuse: OVERLAP where a byte is in another datum, or in the pages of one of realm_data_alloc; RANGE where there are no bytes, or
+   none so high; FILLED. */
 uint32_t realm_data_new(struct realm_tasks *tasks, void *pointer, size_t bytes, struct realm_data *data);
 
-/* The same with memory of the library's, of zero bytes at first, which fills whole pages: there the guard finds each undeclared access. The
-   memory is given back as the datum is freed. DONE, NO_MEMORY. Misuse: RANGE, FILLED. */
+/* The same with memory of the library's, of zero bytes at first, which fills whole pages, so that the guard finds undeclared reads there
+   too. The memory is given back as the datum is freed. DONE, NO_MEMORY. Misuse: RANGE, FILLED. */
 uint32_t realm_data_alloc(struct realm_tasks *tasks, size_t bytes, void **pointer, struct realm_data *data);
 
 /* Cuts a datum into consecutive tiles of these sizes, which are at least 1 and together its bytes; tiles are numbered from 0. Tasks
    that access different tiles don't conflict; one that accesses the whole datum accesses each tile. A datum that is not cut has
-   one tile. Tiles of before go. DONE, NO_MEMORY. Misuse: RANGE, also where the data of the runtime would have too many tiles;
-   NEEDED where a task of the present window was inserted with the datum: wait first; EMPTY, USED_UP and OTHER_RUN of the datum. */
+   one tile. Tiles of before go. What faulted with some of them since the last wait cancels what accesses a byte of these; where the datum
+   is cut once more before a wait, what accesses a byte of a tile that had one. DONE, NO_MEMORY. Misuse: RANGE, also where the data of the
+   runtime would have too many tiles; NEEDED where a task of the present window was inserted with the datum: wait first; EMPTY, USED_UP and
+   OTHER_RUN of the datum. */
 uint32_t realm_data_tiles(struct realm_tasks *tasks, struct realm_data data, uint32_t count, const size_t *sizes);
 
-/* Frees a datum: its memory is the program's alone, or given back. The handle is empty then. DONE. Misuse: NEEDED where a task that was
+/* Frees a datum: its memory is the program's alone, or given back. The handle is empty then, and what faulted with the datum cancels by it
+   nothing that is inserted later, also where the memory is made a datum again. DONE. Misuse: NEEDED where a task that was
    inserted with it has not ended; EMPTY, USED_UP and OTHER_RUN of the datum. */
 uint32_t realm_data_free(struct realm_tasks *tasks, struct realm_data *data);
 
@@ -106,7 +110,8 @@ typedef uint32_t (*realm_task_body)(void *argument);
 
 /* Inserts a task behind all that were inserted before: a body, what it is called with, and what it accesses, at most 8. Workers may begin
    it at once; without workers it is performed by a wait. The argument, which may be null, is there until the task has ended; the uses
-   need not be. DONE with the number of the task, from 0 in the order of insertion; NO_MEMORY, and then the task is not inserted.
+   need not be, and may be null where there are none. DONE with the number of the task, from 0 in the order of insertion; NO_MEMORY, and
+   then the task is not inserted.
    Tasks are kept by windows: a wait ends one, and so does an insertion once it has so many tasks as realm_tasks_window says. That
    insertion first performs all that was inserted, as a wait does, but tells no fault. No result hangs on where windows end.
    Should the library overlook tasks, an error of its own, a wait and such an insertion answer FORGOTTEN, and the window stays.
@@ -132,8 +137,9 @@ struct realm_task_fault {
 
 /* Performs tasks, beside the workers, until all that were inserted have ended. A task whose body answers a fault cancels each that depends
    on it, and those cancel what depends on them: their bodies are not run. The others are performed.
-   DONE where no task faulted since the last wait; UNDECLARED where the guard found an access, with the first task that made one in the order
-   of insertion; else FAULTED with the first task whose body faulted. fault may be null. Then nothing that was inserted before cancels what is inserted later: the program may read its data, mend them, and go on. */
+   DONE where no task faulted since the last wait; UNDECLARED where the guard found an access, with the first task that made one in the
+   order of insertion; else FAULTED with the first task whose body faulted. fault may be null. Then nothing that was inserted before cancels
+   what is inserted later: the program may read its data, mend them, and go on. */
 uint32_t realm_wait(struct realm_tasks *tasks, struct realm_task_fault *fault);
 
 /* How a task stands. RUNNING: it runs, or is about to. LONG_OVER: it has ended, and how is kept no more: that is kept of the last 65,536
@@ -179,11 +185,14 @@ uint32_t realm_tasks_message(uint32_t status, uint8_t *out, size_t room, uint64_
    - The memory of all data but what the task writes is compared before and after each task, byte by byte.
    - A page that one datum or tile fills is protected while a task runs that does not declare it, and against writing while one runs
      that only reads it. So an access there is found as it happens, whether it reads or writes, and whether or not it changes a byte.
+     Where such pages make more than 8,192 separate ranges, the first of them are protected.
    The first undeclared access of a task to a datum is told on standard error with the task, the datum, the byte and what was
    declared. The task counts as faulted, and realm_wait answers UNDECLARED. No fault is told of a program that keeps to its accesses.
-   What the guard can't find: reads outside of whole pages; writing outside of them that leaves what was there; what an undeclared
-   access to memory does that is no datum's. Under the guard no other thread of the program accesses data during waits and insertions, and
-   data are in memory that may be read and written. The memory is needed twice. The guard handles SIGSEGV, and hands on what is not its own. */
+   What the guard can't find: reads outside of protected pages; writing outside of them that leaves what was there; an access to them by
+   the system, which answers EFAULT to a body that has it read a file there; what an undeclared access to memory does that is no datum's.
+   Under the guard no other thread of the program accesses data during waits and insertions, and data are in memory that may be read and
+   written. The memory is needed twice. The guard handles SIGSEGV, which the thread that waits does not block meanwhile, and hands on what
+   is not its own. */
 
 #ifdef __cplusplus
 }

@@ -89,6 +89,7 @@ static int handles_of_data(void) {
     CHECK(realm_data_new(&tasks, memory, 0, &a) == REALM_MISUSE_RANGE && realm_data_new(&tasks, memory, SIZE_MAX, &a) == REALM_MISUSE_RANGE);
     CHECK(realm_data_alloc(&tasks, 0, &pages, &a) == REALM_MISUSE_RANGE && realm_data_alloc(&tasks, SIZE_MAX, &pages, &a) == REALM_MISUSE_RANGE);
     CHECK(realm_data_alloc(&tasks, SIZE_MAX / 4, &pages, &a) == REALM_TASKS_NO_MEMORY && !a.of);
+    CHECK(!realm_data_alloc(&tasks, 5, &pages, &a) && realm_data_new(&tasks, (uint8_t *)pages + 8, 1, &b) == REALM_MISUSE_OVERLAP && !realm_data_free(&tasks, &a));
     CHECK(!realm_data_new(&tasks, memory + 16, 32, &a) && realm_data_new(&tasks, memory, 8, &a) == REALM_MISUSE_FILLED);
     CHECK(realm_data_new(&other, memory, 8, &a) == REALM_MISUSE_FILLED);
     for (int from = 0; from < 64; from++)
@@ -272,22 +273,63 @@ static int faults(uint32_t workers, uint32_t window) {
     return realm_tasks_free(&tasks) != REALM_TASKS_FAULTED;
 }
 
-/* A datum that is freed and made anew before a wait has nothing to do with what was lost of it. */
+/* A datum that is freed and made anew before a wait has nothing to do with what was lost of it, also where its neighbour is freed then. */
 static int made_anew(void) {
     struct realm_tasks tasks = REALM_NO_TASKS;
-    struct realm_data a = REALM_NO_DATA, freed;
+    struct realm_data a = REALM_NO_DATA, b = REALM_NO_DATA, freed;
     uint64_t lost, task;
     uint32_t seven = 7, state = REALM_TASK_WAITING;
-    CHECK(!realm_tasks_new(1, &tasks) && !realm_data_new(&tasks, memory, 8, &a));
-    struct realm_use use[] = {realm_writes(a)};
+    CHECK(!realm_tasks_new(1, &tasks) && !realm_data_new(&tasks, memory, 8, &a) && !realm_data_new(&tasks, memory + 8, 8, &b));
+    struct realm_use use[] = {realm_writes(a)}, both[] = {realm_writes(a), realm_writes(b)};
+    CHECK(!realm_insert(&tasks, nothing, 0, both, 2, &task) && !realm_wait(&tasks, 0));
     CHECK(!realm_insert(&tasks, fault, &seven, use, 1, &lost));
     while (state < REALM_TASK_DONE) CHECK(!realm_task_status(&tasks, lost, &state));
     freed = a;
-    CHECK(state == REALM_TASK_FAULTED && !realm_data_free(&tasks, &a) && !realm_data_new(&tasks, memory, 8, &a) && a.place != freed.place);
+    CHECK(state == REALM_TASK_FAULTED && !realm_data_free(&tasks, &a) && !realm_data_free(&tasks, &b));
+    CHECK(!realm_data_new(&tasks, memory, 8, &a) && a.place != freed.place);
     use[0] = realm_writes(a);
     CHECK(!realm_insert(&tasks, nothing, 0, use, 1, &task) && realm_wait(&tasks, 0) == REALM_TASKS_FAULTED);
     CHECK(!realm_task_status(&tasks, task, &state) && state == REALM_TASK_DONE);
     return realm_tasks_free(&tasks);
+}
+
+/* A datum that is cut anew before a wait: lost are the tiles that have a byte of what was lost. */
+static int cut_anew(void) {
+    static const uint32_t wanted[] = {REALM_TASK_DONE, REALM_TASK_CANCELLED, REALM_TASK_CANCELLED, REALM_TASK_DONE};
+    struct realm_tasks tasks = REALM_NO_TASKS;
+    struct realm_data a = REALM_NO_DATA;
+    uint64_t task;
+    uint32_t seven = 7, state;
+    size_t before[] = {4, 2, 2}, after[] = {2, 3, 1, 2};
+    CHECK(!realm_tasks_new(0, &tasks) && !realm_tasks_window(&tasks, 1) && !realm_data_new(&tasks, memory, 8, &a) && !realm_data_tiles(&tasks, a, 3, before));
+    struct realm_use use[] = {realm_writes_tile(a, 1)};
+    CHECK(!realm_insert(&tasks, fault, &seven, use, 1, &task) && !realm_insert(&tasks, nothing, 0, 0, 0, &task));
+    CHECK(!realm_data_tiles(&tasks, a, 4, after));
+    for (uint32_t k = 0; k < 4; k++) {
+        use[0] = realm_reads_tile(a, k);
+        CHECK(!realm_insert(&tasks, nothing, 0, use, 1, &task));
+    }
+    CHECK(realm_wait(&tasks, 0) == REALM_TASKS_FAULTED);
+    for (uint32_t k = 0; k < 4; k++) CHECK(!realm_task_status(&tasks, task - 3 + k, &state) && state == wanted[k]);
+    return realm_tasks_free(&tasks);
+}
+
+static void *free_cancelled(void *tasks) {
+    pthread_cancel(pthread_self());
+    realm_tasks_free(tasks);
+    return 0;
+}
+
+/* A thread that is to be cancelled waits and frees a runtime nevertheless. */
+static int freed_by_cancelled(void) {
+    struct realm_tasks tasks = REALM_NO_TASKS, copy;
+    pthread_t thread;
+    uint64_t task;
+    CHECK(!realm_tasks_new(2, &tasks) && !realm_insert(&tasks, doze, 0, 0, 0, &task));
+    copy = tasks;
+    CHECK(!pthread_create(&thread, 0, free_cancelled, &tasks) && !pthread_join(thread, 0));
+    CHECK(!tasks.at && realm_wait(&copy, 0) == REALM_MISUSE_USED_UP);
+    return 0;
 }
 
 /* The states of many tasks: those of the last 65,536 of earlier windows are kept. */
@@ -352,7 +394,7 @@ static int texts(void) {
 
 int main(int count, char **words) {
     (void)words;
-    if (handles_of_runtimes() || handles_of_data() || insertions() || from_bodies() || needed() || waiter_helps() || made_anew() || texts()) return 1;
+    if (handles_of_runtimes() || handles_of_data() || insertions() || from_bodies() || needed() || waiter_helps() || made_anew() || cut_anew() || freed_by_cancelled() || texts()) return 1;
     if (count < 2 && (many() || data_in_turn())) return 1;
     for (uint32_t workers = 0; workers < 3; workers++)
         for (uint32_t window = 1; window < 9; window++)

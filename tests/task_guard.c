@@ -1,5 +1,6 @@
 /* The guard of tasks: each planted access that a task did not declare is told, with task, datum, byte and what was declared, and none is told of
-   tasks that keep to what they declared. The status is 0 where all is so. */
+   tasks that keep to what they declared. Usage: task_guard [few]; the status is 0 where all is so. With `few` what takes many ranges of pages is left
+   out. */
 #define _GNU_SOURCE
 #include "realm_tasks.h"
 #include <fcntl.h>
@@ -7,6 +8,7 @@
 #include <stdio.h>
 #include <stdlib.h>
 #include <string.h>
+#include <sys/mman.h>
 #include <sys/wait.h>
 #include <unistd.h>
 
@@ -108,6 +110,7 @@ static int try_plants(int *count) {
         {"writes a datum that it declares to read", {NEW_SMALL, 1, 0, 0, SMALL}, NEW_SMALL, -1, 0, 1, 1},
         {"writes behind its tile", {NEW_TILED, 1, 0, SMALL / 2, 1}, NEW_TILED, 1, 1, 0, 1},
         {"writes a tile of a datum that it declares to read", {NEW_TILED, 1, 0, SMALL / 4, 9}, NEW_TILED, -1, 0, 1, 1},
+        {"writes two tiles of a datum that it does not declare", {NEW_TILED, 1, 0, SMALL / 4 - 1, 2}, NEW_SMALL, -1, 1, 0, 1},
         {"reads pages that it does not declare", {NEW_PAGES, 0, 0, 3 * page + 2, 9}, NEW_SMALL, -1, 1, 0, 0},
         {"reads the last byte of pages that it does not declare", {NEW_PAGES, 0, 0, PAGES * page - 6, 1}, NEW_SMALL, -1, 1, 0, 0},
         {"writes pages that it does not declare", {NEW_PAGES, 1, 0, 0, 2 * page}, NEW_SMALL, -1, 1, 0, 1},
@@ -182,10 +185,10 @@ static int try_order(void) {
     return realm_tasks_free(&tasks);
 }
 
-/* The body of a guarded task waits for tasks of a second guarded runtime, and accesses what it did not declare. */
+/* The body of a guarded task waits for tasks of a second guarded runtime, and accesses what it did not declare there and behind that. */
 static struct realm_tasks inner;
 static uint32_t nest(void *argument) {
-    struct access access = {NEW_PAGES, 0, 0, 1, 1};
+    struct access access = {NEW_PAGES, 0, 0, 1, 1}, later = {NEW_ARRAY, 1, 0, page, 1};
     struct realm_data pages = REALM_NO_DATA;
     void *at;
     uint64_t task;
@@ -193,7 +196,7 @@ static uint32_t nest(void *argument) {
     (void)argument;
     if (realm_tasks_new(0, &inner) || realm_data_alloc(&inner, page, &at, &pages)) return 1;
     if (realm_insert(&inner, access_bytes, &access, 0, 0, &task)) return 2;
-    return realm_wait(&inner, &fault) ? 3 : realm_tasks_free(&inner);
+    return realm_wait(&inner, &fault) ? 3 : realm_tasks_free(&inner) + access_bytes(&later);
 }
 
 static int try_nested(void) {
@@ -201,7 +204,8 @@ static int try_nested(void) {
     uint64_t task;
     CHECK(!make() && !realm_insert(&tasks, nest, 0, 0, 0, &task));
     CHECK(realm_wait(&tasks, &fault) == REALM_TASKS_UNDECLARED && fault.datum == NEW_PAGES && fault.byte == 1);
-    CHECK(strstr(said(), "realm guard: task 0 read byte 1 of datum 3"));
+    const char *words = said();
+    CHECK(strstr(words, "realm guard: task 0 read byte 1 of datum 3") && strstr(words, "datum 5"));
     CHECK(!realm_tasks_free(&tasks));
     return 0;
 }
@@ -214,32 +218,65 @@ static uint32_t crash(void *argument) {
 
 static void own_handler(int number) { _exit(number == SIGSEGV ? 42 : 1); }
 
-/* A fault that is none of the guard's goes to the program's handler, or ends the program. */
-static int try_other_faults(int has_handler) {
+/* A signal that is none of the guard's goes to the program's handler, ends the program, or is ignored. */
+static int try_other_faults(void (*handler)(int)) {
     int status;
     pid_t child = fork();
     if (!child) {
         uint64_t task;
-        signal(SIGSEGV, has_handler ? own_handler : SIG_DFL);
+        signal(SIGSEGV, handler);
         if (make() || realm_insert(&tasks, crash, 0, 0, 0, &task)) _exit(2);
         realm_wait(&tasks, 0);
-        raise(SIGSEGV);
         _exit(3);
     }
     CHECK(child > 0 && waitpid(child, &status, 0) == child);
-    CHECK(has_handler ? WIFEXITED(status) && WEXITSTATUS(status) == 42 : WIFSIGNALED(status) && WTERMSIG(status) == SIGSEGV);
+    if (handler == SIG_DFL) CHECK(WIFSIGNALED(status) && WTERMSIG(status) == SIGSEGV);
+    else CHECK(WIFEXITED(status) && WEXITSTATUS(status) == (handler == SIG_IGN ? 3 : 42));
     return 0;
 }
 
-int main(void) {
+/* A thread that blocks SIGSEGV, and has a handler of its own, is told of accesses to pages too, and blocks it behind a wait as before. */
+static int try_blocked(void) {
+    struct access access = {NEW_PAGES, 1, 0, 5, 1};
+    sigset_t set, was;
+    uint64_t task;
+    sigemptyset(&set);
+    sigaddset(&set, SIGSEGV);
+    CHECK(!make() && !pthread_sigmask(SIG_BLOCK, &set, 0) && signal(SIGSEGV, own_handler) != SIG_ERR);
+    CHECK(!realm_insert(&tasks, access_bytes, &access, 0, 0, &task) && realm_wait(&tasks, 0) == REALM_TASKS_UNDECLARED);
+    CHECK(!pthread_sigmask(SIG_UNBLOCK, &set, &was) && sigismember(&was, SIGSEGV) && strstr(said(), "task 0 wrote byte 5 of datum 3"));
+    return realm_tasks_free(&tasks);
+}
+
+/* More ranges of pages than the system has: what a task declares it may access all the same, and what it doesn't and changes is told. */
+static int try_many_ranges(void) {
+    enum { RANGES = 40000 };
+    struct access access = {NEW_PAGE_TILES, 1, 0, 2 * page, 1};
+    struct realm_task_fault fault;
+    uint8_t *pages = mmap(0, 2 * RANGES * page, PROT_READ | PROT_WRITE, MAP_PRIVATE | MAP_ANONYMOUS, -1, 0), *last = pages + 2 * (RANGES - 1) * page;
+    uint64_t task;
+    CHECK(pages != MAP_FAILED && !make());
+    for (uint32_t k = 0; k < RANGES; k++) CHECK(!realm_data_new(&tasks, pages + 2 * k * page, page, &(struct realm_data){0, 0, 0}));
+    struct realm_use uses[] = {realm_writes_tile(data[NEW_PAGE_TILES], 1)};
+    CHECK(!realm_insert(&tasks, access_bytes, &access, uses, 1, &task) && !realm_wait(&tasks, 0) && !*said());
+    memory[NEW_PAGES] = last;
+    access = (struct access){NEW_PAGES, 1, 0, 3, 1};
+    CHECK(!realm_insert(&tasks, access_bytes, &access, 0, 0, &task) && realm_wait(&tasks, &fault) == REALM_TASKS_UNDECLARED);
+    CHECK(fault.pointer == last && fault.byte == 3 && fault.written && strstr(said(), "realm guard: task 1"));
+    return realm_tasks_free(&tasks) || munmap(pages, 2 * RANGES * page);
+}
+
+int main(int words, char **word) {
     int count;
+    (void)word;
     page = (size_t)sysconf(_SC_PAGESIZE);
     array = malloc(4 * page);
     setenv("REALM_GUARD", "1", 1);
     if (!array || pipe2(errors, O_NONBLOCK) || dup2(errors[1], 2) < 0) return puts("no memory or no pipe"), 1;
     memset(array, 0, 4 * page);
     if (try_plants(&count) || try_correct() || try_both() || try_order() || try_nested()) return 1;
-    if (try_other_faults(0) || try_other_faults(1)) return 1;
+    if (try_other_faults(SIG_DFL) || try_other_faults(SIG_IGN) || try_other_faults(own_handler) || try_blocked()) return 1;
+    if (words < 2 && try_many_ranges()) return 1;
     free(array);
     printf("the guard of tasks: %d planted accesses told, and none of a correct program\n", count);
     return 0;

@@ -1,8 +1,8 @@
 /* Random programs of tasks beside the same bodies one after another. Usage: task_programs COUNT [SEED]; or task_programs graph SEED, which
    writes the tasks of one program as a graph.
 
-   A program has 500 tasks over 40 data, of which some are cut into tiles and cut anew, with waits, faults and windows of any size, by 0 to 8
-   workers. The memory, how each task ended, and what each wait tells has to be as one after another. Where no program has
+   A program has 500 tasks over 40 data, of which some are cut into tiles and cut anew, behind waits and between them, with waits, faults
+   and windows of any size, by 0 to 8 workers. The memory, how each task ended, and what each wait tells has to be as one after another. Where no program has
    ended for two minutes that is told, and the status is 1. */
 #include "realm_tasks.h"
 #include <signal.h>
@@ -21,7 +21,7 @@ struct task {
     int is_lost;
     uint32_t state, answer;
 };
-struct datum { uint32_t words, tiles, ends[MOST_TILES]; struct realm_data handle; };
+struct datum { uint32_t words, tiles, ends[MOST_TILES]; struct realm_data handle; int was_cut; };   /* was cut: since the last wait */
 
 static struct datum data[DATA];
 static struct task tasks[TASKS];
@@ -97,17 +97,22 @@ static uint32_t run_sequence(uint32_t from, uint32_t to) {
     return first;
 }
 
-/* Cuts a datum into tiles of drawn sizes. */
-static void cut(struct realm_tasks *runtime, struct datum *datum) {
+/* Cuts a datum into tiles of drawn sizes, unless a task of the window needs it, which may be or not. */
+static void cut(struct realm_tasks *runtime, struct datum *datum, int may_be_needed) {
+    struct datum new = *datum;
     size_t sizes[MOST_TILES];
-    datum->tiles = 1 + draw(datum->words < MOST_TILES ? datum->words : MOST_TILES);
+    new.tiles = 1 + draw(new.words < MOST_TILES ? new.words : MOST_TILES);
     uint32_t at = 0;
-    for (uint32_t k = 0; k < datum->tiles; k++) {
-        uint32_t left = datum->words - at - (datum->tiles - 1 - k), size = k + 1 == datum->tiles ? left : 1 + draw(left);
+    for (uint32_t k = 0; k < new.tiles; k++) {
+        uint32_t left = new.words - at - (new.tiles - 1 - k), size = k + 1 == new.tiles ? left : 1 + draw(left);
         sizes[k] = 8 * (size_t)size;
-        datum->ends[k] = at += size;
+        new.ends[k] = at += size;
     }
-    wants("tiles", realm_data_tiles(runtime, datum->handle, datum->tiles, sizes), REALM_TASKS_DONE);
+    uint32_t status = realm_data_tiles(runtime, new.handle, new.tiles, sizes);
+    if (may_be_needed && status == REALM_MISUSE_NEEDED) return;
+    wants("tiles", status, REALM_TASKS_DONE);
+    new.was_cut = may_be_needed;
+    *datum = new;
 }
 
 static void make_datum(struct realm_tasks *runtime, uint32_t number) {
@@ -117,7 +122,8 @@ static void make_datum(struct realm_tasks *runtime, uint32_t number) {
     datum->ends[0] = datum->words;
     datum->handle = (struct realm_data){0, 0, 0};
     wants("datum", realm_data_new(runtime, parallel[number], 8 * (size_t)datum->words, &datum->handle), REALM_TASKS_DONE);
-    if (draw(2)) cut(runtime, datum);
+    datum->was_cut = 0;
+    if (draw(2)) cut(runtime, datum, 0);
 }
 
 /* Behind a wait some data are freed and made anew, and some cut anew. */
@@ -127,8 +133,9 @@ static void change_data(struct realm_tasks *runtime) {
             wants("free datum", realm_data_free(runtime, &data[k].handle), REALM_TASKS_DONE);
             make_datum(runtime, k);
         } else if (!draw(6)) {
-            cut(runtime, &data[k]);
+            cut(runtime, &data[k], 0);
         }
+        data[k].was_cut = 0;
     }
 }
 
@@ -180,6 +187,8 @@ static uint64_t run_program(void) {
     for (uint32_t k = 0; k < DATA; k++)
         for (uint32_t w = 0; w < MOST_WORDS; w++) parallel[k][w] = sequential[k][w] = draw(UINT32_MAX);
     for (uint32_t t = 0; t < TASKS; t++) {
+        uint32_t other = draw(4 * DATA);
+        if (other < DATA && !data[other].was_cut) cut(&runtime, &data[other], 1);
         insert(&runtime, t, fault_in);
         if (draw(waits_in) && t + 1 < TASKS) continue;
         faults += wait_for(&runtime, begun, t + 1);

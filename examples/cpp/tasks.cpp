@@ -21,7 +21,9 @@ int main() {
         if (status) break;
         status = tasks.insert({realm_reads_tile(of_cells, k), realm_writes_tile(of_sums, k)}, [=] { for (uint32_t i = 0; i < of_tile; i++) *part += at[i]; });
     }
-    if (!status) status = tasks.insert({realm_reads(of_sums), realm_writes(of_total)}, [=] { for (uint32_t k = 0; k < tiles; k++) *total += parts[k]; });
+    // what a task accesses may stand in a vector too
+    const std::vector<realm_use> both = {realm_reads(of_sums), realm_writes(of_total)};
+    if (!status) status = tasks.insert(both, [=] { for (uint32_t k = 0; k < tiles; k++) *total += parts[k]; });
     // a body may answer a fault; what depends on it is not run
     if (!status) status = tasks.insert({realm_reads(of_total)}, [=] { return *total == 31996000 ? 0u : 1u; });
     if (!status) status = tasks.wait();

@@ -1,4 +1,4 @@
-"""Graphs of array operations by their texts: checked, evaluated, planned, explained, and run by threads; and events that threads share.
+"""Graphs of array operations by their texts: checked, evaluated, planned, explained, and run by threads; events that threads share; and tasks over buffers.
 
     import realm
 
@@ -15,12 +15,13 @@ installation or the repository to which this package belongs, else one that the 
 """
 
 from ._library import VERSION as __version__
-from .errors import Misuse, Refused
+from .errors import Misuse, Refused, Undeclared
 from .events import Closed, Ended, Event, Owner, Pending, Place, Receipt, Waiter
 from .runs import Access, Call, Run, State, Work, run
+from .tasks import Data, Stats, Tasks, Tile
 from .texts import FAULT, RULE, WHY, audit, check, evaluate, explain, make, plan, upgrade, word
 
 __all__ = [
-    "FAULT", "RULE", "WHY", "Access", "Call", "Closed", "Ended", "Event", "Misuse", "Owner", "Pending", "Place", "Receipt", "Refused", "Run", "State", "Waiter",
-    "Work", "__version__", "audit", "check", "evaluate", "explain", "make", "plan", "run", "upgrade", "word",
+    "FAULT", "RULE", "WHY", "Access", "Call", "Closed", "Data", "Ended", "Event", "Misuse", "Owner", "Pending", "Place", "Receipt", "Refused", "Run", "State",
+    "Stats", "Tasks", "Tile", "Undeclared", "Waiter", "Work", "__version__", "audit", "check", "evaluate", "explain", "make", "plan", "run", "upgrade", "word",
 ]  # fmt: skip

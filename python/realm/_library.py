@@ -6,7 +6,7 @@ import pathlib
 
 SONAME = "librealm.so.1"
 DONE, USAGE, UNREAD, UNFIT, NO_ROOM, NO_MEMORY, SLOTS, TOO_LONG, UNLAWFUL = 0, 2, 3, 4, 6, 7, 8, 9, 10
-# The least number of misuse, which are the same for runs and events.
+# The least number of misuse, which are the same for runs, events and tasks.
 MISUSE = 11
 
 U32, U64, SIZE, TEXT = ctypes.c_uint32, ctypes.c_uint64, ctypes.c_size_t, ctypes.c_char_p
@@ -28,7 +28,7 @@ class Verdict(ctypes.Structure):
 
 
 class Handle(ctypes.Structure):
-    """A handle of a run, of work, or of what the calls on events hold; 0 is empty."""
+    """A handle of a run, of work, of a runtime of tasks, or of what the calls on events hold; 0 is empty."""
 
     _fields_ = [("at", U64)]
 
@@ -68,6 +68,44 @@ class BodyOfWord(ctypes.Structure):
     _fields_ = [("word", TEXT), ("run", BODY), ("context", ctypes.c_void_p)]
 
 
+TASK_BODY = ctypes.CFUNCTYPE(U32, ctypes.c_size_t)
+
+
+class DatumHandle(ctypes.Structure):
+    """The handle of a datum of a runtime of tasks."""
+
+    _fields_ = [("of", U64), ("place", U32), ("generation", U32)]
+
+
+class UseNumbers(ctypes.Structure):
+    """What a task accesses."""
+
+    _fields_ = [("data", DatumHandle), ("tile", U32), ("mode", U32)]
+
+
+class FaultNumbers(ctypes.Structure):
+    """What a wait tells of a fault."""
+
+    _fields_ = [
+        ("task", U64),
+        ("answer", U32),
+        ("declared", U32),
+        ("written", U32),
+        ("datum", U64),
+        ("pointer", ctypes.c_void_p),
+        ("byte", U64),
+    ]
+
+
+class StatsNumbers(ctypes.Structure):
+    """What a runtime of tasks has done so far."""
+
+    _fields_ = [
+        *((name, U64) for name in ("inserted", "done", "faulted", "cancelled", "windows", "by_waits", "wakes")),
+        *((name, U32) for name in ("workers", "data", "is_guarded")),
+    ]
+
+
 class EventHandle(ctypes.Structure):
     """The handle of an event."""
 
@@ -76,6 +114,7 @@ class EventHandle(ctypes.Structure):
 
 _BUFFER = [TEXT, SIZE, ctypes.POINTER(U64)]
 _HANDLE, _NUMBER, _EVENT = ctypes.POINTER(Handle), ctypes.POINTER(U32), ctypes.POINTER(EventHandle)
+_DATUM = ctypes.POINTER(DatumHandle)
 _CALLS = {
     "realm_check": [TEXT, SIZE, ctypes.POINTER(Verdict)],
     "realm_audit": [TEXT, SIZE, ctypes.POINTER(Verdict)],
@@ -117,6 +156,18 @@ _CALLS = {
     "realm_events_closed_look": [_HANDLE, EventHandle],
     "realm_events_closed_place": [_HANDLE, U32, _EVENT],
     "realm_events_free": [_HANDLE],
+    "realm_tasks_new": [U32, _HANDLE],
+    "realm_data_new": [_HANDLE, ctypes.c_void_p, SIZE, _DATUM],
+    "realm_data_tiles": [_HANDLE, DatumHandle, U32, ctypes.POINTER(SIZE)],
+    "realm_data_free": [_HANDLE, _DATUM],
+    "realm_insert": [_HANDLE, TASK_BODY, ctypes.c_size_t, ctypes.POINTER(UseNumbers), SIZE, ctypes.POINTER(U64)],
+    "realm_wait": [_HANDLE, ctypes.POINTER(FaultNumbers)],
+    "realm_task_status": [_HANDLE, U64, _NUMBER],
+    "realm_tasks_window": [_HANDLE, U32],
+    "realm_tasks_stats": [_HANDLE, ctypes.POINTER(StatsNumbers)],
+    "realm_tasks_graph": [_HANDLE, *_BUFFER],
+    "realm_tasks_message": [U32, *_BUFFER],
+    "realm_tasks_free": [_HANDLE],
 }
 
 

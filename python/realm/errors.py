@@ -2,6 +2,8 @@
 
 from __future__ import annotations
 
+from collections.abc import Callable
+
 from ._library import DONE, LIB, MISUSE, NO_MEMORY, text_of
 
 
@@ -41,9 +43,29 @@ class Misuse(RuntimeError):
     status: int
     """The number of realm_misuse."""
 
-    def __init__(self, status: int):
-        super().__init__((text_of(LIB.realm_run_message, status)[1] or b"").decode())
+    def __init__(self, status: int, message: Callable[..., int] = LIB.realm_run_message):
+        super().__init__((text_of(message, status)[1] or b"").decode())
         self.status = status
+
+
+class Undeclared(RuntimeError):
+    """The guard of tasks found an access that a task did not declare."""
+
+    task: int
+    """The number of the task."""
+    datum: int
+    """Which datum, from 0 in the order in which those of the runtime were made."""
+    byte: int
+    """The byte, from 0 in the datum."""
+    is_read: bool
+    """The task declared to read that byte."""
+    is_written: bool
+    """The byte was written. If not it was read, or it isn't known."""
+
+    def __init__(self, task: int, datum: int, byte: int, is_read: bool, is_written: bool):
+        did, declared = "wrote" if is_written else "accessed", "which it declared to read" if is_read else "which it did not declare"
+        super().__init__(f"task {task} {did} byte {byte} of datum {datum}, {declared}")
+        self.task, self.datum, self.byte, self.is_read, self.is_written = task, datum, byte, is_read, is_written
 
 
 def checked(status: int, *others: int) -> int:

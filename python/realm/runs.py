@@ -7,6 +7,7 @@ from collections.abc import Callable, Mapping
 from dataclasses import dataclass
 from typing import AnyStr
 
+from ._aside import aside
 from ._library import BODY, DONE, LIB, U32, BodyOfWord, CallNumbers, Handle, Lines, Verdict, text_of
 from .errors import checked
 from .texts import bytes_of, like, refused, within
@@ -120,7 +121,8 @@ class Run:
             checked(LIB.realm_run_all(self._handle, within(threads, 0, 8)))
             return
         table = _Table(bodies)
-        status = LIB.realm_run_all_with(self._handle, within(threads, 0, 8), table.entries, len(bodies))
+        count = within(threads, 0, 8)
+        status = aside(lambda: LIB.realm_run_all_with(self._handle, count, table.entries, len(bodies)), table.raised.append)
         if table.raised:
             self.free()
             raise table.raised[0]

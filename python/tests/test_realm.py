@@ -3,10 +3,20 @@
     PYTHONPATH=python python3 -m unittest discover python/tests
 """
 
+import array
+import contextlib
 import gc
+import os
 import pathlib
+import random
+import signal
+import subprocess
+import sys
+import tempfile
 import threading
+import time
 import unittest
+from unittest import mock
 
 import realm
 
@@ -105,6 +115,27 @@ class Runs(unittest.TestCase):
         with realm.Run(text) as run, self.assertRaises(ZeroDivisionError):
             run.perform_all(2, {"potrf": lambda call: 1 // 0, "trsm": told.append, "gemm": told.append, "norm": told.append})
         self.assertEqual(told, [])
+
+    def test_an_interrupt_while_bodies_run(self):
+        text = "realm 3\n" + "".join(f"k{k} = call busy\n" for k in range(500)) + "end\n"
+        for threads in (1, 3):
+            told = []
+
+            def busy(call, told=told):
+                end = time.monotonic() + 0.002
+                while time.monotonic() < end:
+                    pass
+                told.append(call)
+
+            def interrupt(told=told):
+                while len(told) < 5:
+                    time.sleep(0.001)
+                os.kill(os.getpid(), signal.SIGINT)
+
+            threading.Thread(target=interrupt).start()
+            with realm.Run(text) as run, self.assertRaises(KeyboardInterrupt):
+                run.perform_all(threads, {"busy": busy})
+            self.assertLess(len(told), 500)
 
     def test_generated_graphs(self):
         for seed in range(20):
@@ -213,6 +244,145 @@ class Events(unittest.TestCase):
             pending.end()
             thread.join()
             self.assertEqual(seen, [True])
+
+
+def mix(number, reads, writes):
+    """What a task of these tests does to bytes: all that it accesses it mixes into what it writes."""
+    for it in [*reads, *writes]:
+        for byte in it:
+            number = number * 31 + byte & 0xFFFFFFFF
+    for it in writes:
+        for k in range(len(it)):
+            it[k] = (it[k] + number + k) & 255
+
+
+class Tasks(unittest.TestCase):
+    def misuse(self, status, call, *arguments, **more):
+        with self.assertRaises(realm.Misuse) as caught:
+            call(*arguments, **more)
+        self.assertEqual(caught.exception.status, status)
+        self.assertNotIn(str(caught.exception), ("", "no answer has this number"))
+
+    def test_as_one_after_another(self):
+        draw = random.Random(1)
+        for workers in (0, 1, 3, 8):
+            arrays, wanted = ([bytearray(range(12)) for _ in range(6)] for _ in range(2))
+            with realm.Tasks(workers) as tasks:
+                tasks.window(draw.choice((7, 1024)))
+                data = [tasks.data(it) for it in arrays]
+                for it in data[3:]:
+                    it.cut([3, 4, 5])
+                for number in range(300):
+                    of = [(k, draw.randrange(4) if k > 2 else 3) for k in draw.sample(range(6), 3)]
+                    uses, count = [data[k] if tile == 3 else data[k][tile] for k, tile in of], draw.randint(0, 3)
+                    spaces = [it.memory for it in uses]
+                    parts = [memoryview(wanted[k])[(slice(3), slice(3, 7), slice(7, 12), slice(12))[tile]] for k, tile in of]
+                    self.assertEqual(tasks.insert(mix, number, spaces[:count], spaces[count:], reads=uses[:count], writes=uses[count:]), number)
+                    mix(number, parts[:count], parts[count:])
+                tasks.wait()
+                self.assertEqual(arrays, wanted)
+                stats = tasks.stats()
+                self.assertEqual((stats.inserted, stats.done, stats.workers, stats.data), (300, 300, workers, 6))
+
+    def test_a_body_that_raises(self):
+        cells, other = array.array("d", [0, 0]), array.array("d", [0])
+        with realm.Tasks(2) as tasks:
+            of_cells, of_other = tasks.data(cells), tasks.data(other)
+            of_cells.cut([8, 8])
+            first, second = of_cells
+            tasks.insert(lambda: 1 // 0, writes=[first])
+            tasks.insert(cells.__setitem__, 0, 5, writes=[of_cells])
+            tasks.insert(cells.index, 7, reads=[second])
+            tasks.insert(other.__setitem__, 0, 6, writes=[of_other])
+            with self.assertRaises(ZeroDivisionError):
+                tasks.wait()
+            self.assertEqual([tasks.status(it) for it in range(4)], ["faulted", "cancelled", "cancelled", "done"])
+            self.assertEqual((list(cells), list(other)), ([0, 0], [6]))
+            tasks.insert(cells.__setitem__, 0, 5, writes=[of_cells])
+            tasks.wait()
+            self.assertEqual(cells[0], 5)
+            tasks.insert(sys.exit, 3)
+            tasks.insert(lambda: 1 // 0)
+            with self.assertRaises(SystemExit):
+                tasks.wait()
+            # (an interrupt comes to the main thread, which waits and runs no body)
+            for most in (1, 2):
+                ran = []
+                tasks.window(most)
+                tasks.insert(lambda: (time.sleep(0.2), os.kill(os.getpid(), signal.SIGINT), time.sleep(0.2)), writes=[of_cells])
+                with self.assertRaises(KeyboardInterrupt):
+                    tasks.insert(lambda: time.sleep(0.1), writes=[of_cells])
+                    tasks.insert(ran.append, 1, writes=[of_cells])
+                    tasks.wait()
+                with contextlib.suppress(KeyboardInterrupt):
+                    tasks.wait()
+                self.assertEqual(ran, [])
+        runtime = realm.Tasks(1)
+        runtime.insert(lambda: 1 // 0)
+        with self.assertRaises(ZeroDivisionError):
+            runtime.free()
+        self.misuse(12, runtime.wait)
+
+    def test_data(self):
+        cells, answers = bytearray(16), []
+        with realm.Tasks(1) as tasks, realm.Tasks(0) as others:
+            data, foreign = tasks.data(cells), others.data(cells)
+            self.misuse(28, tasks.data, memoryview(cells)[8:])
+            self.misuse(15, data.cut, [8, 9])
+            self.misuse(15, tasks.data, bytearray())
+            self.assertRaises(TypeError, tasks.data, b"of bytes that may not be written")
+            self.assertRaises(BufferError, cells.extend, b"1")
+            data.cut([8, 8])
+            self.assertEqual((len(data), data[-1].number, len(data[0].memory)), (2, 1, 8))
+            self.assertRaises(IndexError, lambda: data[2])
+            self.misuse(29, tasks.insert, print, reads=[data], writes=[data[0]])
+            self.misuse(15, tasks.insert, print, reads=[data[0]] * 9)
+            self.misuse(14, tasks.insert, print, reads=[foreign])
+            self.assertRaises(TypeError, tasks.insert, print, reads=[cells])
+            tasks.insert(lambda: answers.append(self.misuse(27, tasks.wait)), reads=[data])
+            self.misuse(30, data.cut, [16])
+            tasks.wait()
+            self.assertEqual(answers, [None])
+            self.assertTrue(tasks.graph().startswith("realm 3\n"))
+            data.free()
+            foreign.free()
+            self.misuse(12, tasks.insert, print, reads=[data])
+            cells.extend(b"1")
+            self.misuse(15, tasks.status, 99)
+
+    def test_the_guard(self):
+        cells, told = bytearray(8), os.dup(2)
+        with mock.patch.dict(os.environ, REALM_GUARD="1"), tempfile.TemporaryFile() as file:
+            with realm.Tasks(4) as tasks:
+                data = tasks.data(cells)
+                tasks.insert(cells.__setitem__, 3, 1, reads=[data])
+                os.dup2(file.fileno(), 2)
+                with self.assertRaises(realm.Undeclared) as caught:
+                    tasks.wait()
+                os.dup2(told, 2)
+                self.assertTrue(tasks.stats().is_guarded)
+            os.close(told)
+            file.seek(0)
+            self.assertIn(b"realm guard: task 0 changed byte 3 of datum 0", file.read())
+        found = caught.exception
+        self.assertEqual((found.task, found.datum, found.byte, found.is_read, found.is_written), (0, 0, 3, True, True))
+
+    def test_what_nobody_holds_and_what_is_left_at_the_end(self):
+        ran = []
+        for _ in range(20):
+            tasks = realm.Tasks(2)
+            data = tasks.data(bytearray(8))
+            tasks.insert(ran.append, 1, writes=[data])
+        del tasks, data
+        gc.collect()
+        self.assertEqual(len(ran), 20)
+        environment = {**os.environ, "PYTHONPATH": os.pathsep.join(sys.path)}
+        for program, said in {
+            "import realm, time\ntasks = realm.Tasks(3)\nfor _ in range(9): tasks.insert(lambda: (time.sleep(0.01), print(1, end='', flush=True)))\n": b"1" * 9,
+            "import os, realm\ntasks = realm.Tasks(3)\nif not os.fork(): raise SystemExit\nos.wait()\nprint(1, end='')\n": b"1",
+        }.items():
+            ended = subprocess.run([sys.executable, "-W", "ignore", "-c", program], capture_output=True, timeout=60, env=environment)
+            self.assertEqual((ended.returncode, ended.stdout, ended.stderr), (0, said, b""))
 
 
 if __name__ == "__main__":
