@@ -14,12 +14,14 @@ use Rattle.graph_terms.proofs.Public.{acquired_lock_known}
 use Rattle.race_check.specs.declared.checked.CheckRefusal.{CheckRefusal}
 use Rattle.race_check.specs.declared.checked.CheckRefusal.TheVariants as refusal
 use Rattle.race_check.specs.Refusal.{NamesLines}
+use Rattle.race_check.specs.Topmost.{IsTopmostRace}
 use Rattle.explanations.specs.Paths.{Leads, IsShortest}
 use Rattle.explanations.specs.Meetings.{IsNearestCommon}
 use Rattle.explanations.specs.declared.meetings.Meeting.{Meeting}
 use Rattle.explain_graph.specs.declared.explanation.Explanation.{Explanation}
 use Rattle.explain_graph.specs.declared.explanation.Explanation.TheVariants.{Cycle, Unreleased, Section as OutsideSection, Descends, ReleaseFault, Race}
-use Rattle.explain_graph.specs.Explanation.{IsExplanation, AreEdges, NamesMeeting, NamesItems}
+use Rattle.explain_graph.specs.declared.reasons.OtherRace.{OtherRace}
+use Rattle.explain_graph.specs.Explanation.{IsExplanation, IsOtherRace, AreEdges, NamesMeeting, NamesRace, NamesItems}
 
 pub leads_edges : (all : List Edge) (i j : ℕ) (p : List Edge) → Leads all i j p → (e : Edge) → Contains p e → Contains all e
 leads_edges all i j [] l e c = absurd (contains_none e c)
@@ -39,6 +41,10 @@ meeting_names g between graph i j (Some x) m = (path_line g between graph x.line
 entered_names : (g : GraphValue) (i j : ℕ) (P : Type 0) (Q : Vec Edge Global → Type 0) (o : Option (Vec Edge Global)) → MatchOption o P (λ p. IsShortest g i j p.items × Q p) → IfSome o (λ p. AreEdges g p.items)
 entered_names g i j P Q None m = tt
 entered_names g i j P Q (Some p) m = path_edges_of g i j p.items m.0
+
+topmost_names : (g : GraphValue) → AllAccessesFit → IsGraph g → (i j : ℕ) (o : Option OtherRace) → MatchOption o (IsTopmostRace g i j) (IsOtherRace g i j) → IfSome o (NamesRace g)
+topmost_names g fit graph i j None m = tt
+topmost_names g fit graph i j (Some r) m = (m.first_known, m.second_known, (fit g r.first r.shared.one graph m.shared.shared.0).column)
 
 pub named : (g : GraphValue) → EdgesBetweenLines → AllAccessesFit → IsGraph g → (why : CheckRefusal) (x : Explanation) → NamesLines g why → IsExplanation g why x → NamesItems g x
 named g between fit graph (refusal.Cycle i) (Cycle r) l x = (subst (λ z. z < length g.lines) (sym x.line) l, path_edges_of g i i r.cycle.items x.cycle)
@@ -68,5 +74,6 @@ named g between fit graph (refusal.Race i j) (Race r) l x = (
   subst (λ z. z < length g.lines) (sym x.second) l.1,
   (fit g i r.race.shared.one graph x.shared.shared.0).column,
   meeting_names g between graph i j r.race.meeting x.meeting,
+  topmost_names g fit graph i j r.topmost x.topmost,
 )
 named g between fit graph why x l h = absurd h

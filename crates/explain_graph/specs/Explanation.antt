@@ -10,6 +10,7 @@ use Rattle.graph_terms.specs.Reservations.{Acquires, Releases}
 use Rattle.graph_meaning.specs.Rules.{Section, Exempt, modes_commute}
 use Rattle.race_check.specs.declared.checked.CheckRefusal.{CheckRefusal}
 use Rattle.race_check.specs.declared.checked.CheckRefusal.TheVariants as refusal
+use Rattle.race_check.specs.Topmost.{IsTopmostRace}
 use Rattle.explanations.specs.Paths.{IsShortest}
 use Rattle.explanations.specs.Shared.{AreUses, IsLeastShared}
 use Rattle.explanations.specs.Meetings.{IsNearestCommon}
@@ -21,6 +22,7 @@ use Rattle.explain_graph.specs.declared.reasons.SectionReason.{SectionReason}
 use Rattle.explain_graph.specs.declared.reasons.DescendsReason.{DescendsReason}
 use Rattle.explain_graph.specs.declared.reasons.ReleaseReason.{ReleaseReason}
 use Rattle.explain_graph.specs.declared.reasons.ConflictReason.{ConflictReason}
+use Rattle.explain_graph.specs.declared.reasons.OtherRace.{OtherRace}
 use Rattle.explain_graph.specs.declared.explanation.Explanation.{Explanation}
 use Rattle.explain_graph.specs.declared.explanation.Explanation.TheVariants.{Cycle, Unreleased, Section as OutsideSection, Descends, ReleaseFault, Race}
 
@@ -70,7 +72,15 @@ pub record AreSectionsOf (g : GraphValue) (i : ℕ) (acquires : List ℕ) : Type
   pub sound : (q : ℕ) → Contains acquires q → (l : ℕ) × Section g l q i
   pub complete : (l q : ℕ) → Section g l q i → Contains acquires q
 
--- where lines i and j meet, that neither waits for the other, which line both wait for, whether what they do there may come in either order, the sections in which they lie, which do not set them apart, and what orders them and breaks no rule, or that nothing does which was tried
+-- the race whose later line stands first, which is not that of lines i and j, and where its lines meet
+pub record IsOtherRace (g : GraphValue) (i j : ℕ) (r : OtherRace) : Type 0 where
+  pub first_known : r.first < length g.lines
+  pub second_known : r.second < length g.lines
+  pub topmost : IsTopmostRace g r.first r.second
+  pub another : r.first ≡ i → r.second ≡ j → ⊥
+  pub shared : IsLeastShared g (AreUses g r.first r.second) r.shared
+
+-- where lines i and j meet, that neither waits for the other, which line both wait for, whether what they do there may come in either order, the sections in which they lie, which do not set them apart, and what orders them and breaks no rule, or that nothing does which was tried; and the race whose later line stands first, unless it is this one
 pub record IsConflictReason (g : GraphValue) (i j : ℕ) (r : ConflictReason) : Type 0 where
   pub first : r.first ≡ i
   pub second : r.second ≡ j
@@ -83,6 +93,7 @@ pub record IsConflictReason (g : GraphValue) (i j : ℕ) (r : ConflictReason) : 
   pub second_sections : AreSectionsOf g j r.sections.second.items
   pub not_exempt : Exempt g i j → ⊥
   pub advice : MatchOption r.advice (NoneOrders g i j (tried_forms g i j r.sections.first.items r.sections.second.items)) (Orders g i j)
+  pub topmost : MatchOption r.topmost (IsTopmostRace g i j) (IsOtherRace g i j)
 
 -- an explanation of just this refusal
 abbrev pub IsExplanation : GraphValue → CheckRefusal → Explanation → Type 0
@@ -101,6 +112,9 @@ AreEdges g es = (e : Edge) → Contains es e → Contains (edges g) e
 abbrev pub NamesMeeting : GraphValue → Meeting → Type 0
 NamesMeeting g m = (m.line < length g.lines) × AreEdges g m.to_first.items × AreEdges g m.to_second.items
 
+abbrev pub NamesRace : GraphValue → OtherRace → Type 0
+NamesRace g r = (r.first < length g.lines) × (r.second < length g.lines) × (r.shared.one.column < length (columns g) + length (data_columns g))
+
 -- the numbers of an explanation are those of lines, reservations and columns, and its edges are edges of the graph
 abbrev pub NamesItems : GraphValue → Explanation → Type 0
 NamesItems g (Cycle r) = (r.line < length g.lines) × AreEdges g r.cycle.items
@@ -108,4 +122,4 @@ NamesItems g (Unreleased r) = (r.acquire < length g.lines) × (r.lock < length (
 NamesItems g (OutsideSection r) = (r.release < length g.lines) × (r.line < length g.lines) × AreEdges g r.path.items × IfSome r.entered (λ p. AreEdges g p.items)
 NamesItems g (Descends r) = (r.outer < length g.lines) × (r.inner < length g.lines) × (r.outer_lock < length (locks g)) × (r.inner_lock < length (locks g)) × AreEdges g r.entered.items × AreEdges g r.left.items
 NamesItems g (ReleaseFault r) = r.release < length g.lines
-NamesItems g (Race r) = (r.first < length g.lines) × (r.second < length g.lines) × (r.race.shared.one.column < length (columns g) + length (data_columns g)) × IfSome r.race.meeting (NamesMeeting g)
+NamesItems g (Race r) = (r.first < length g.lines) × (r.second < length g.lines) × (r.race.shared.one.column < length (columns g) + length (data_columns g)) × IfSome r.race.meeting (NamesMeeting g) × IfSome r.topmost (NamesRace g)

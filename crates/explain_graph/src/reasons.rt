@@ -1,17 +1,19 @@
 //! What explains each refusal of the checker.
 
-ghost use Rattle.std.specs.Prelude.{◌≡◌, ℕ, ◌<◌, not, length, find, IfOk};
+ghost use Rattle.std.specs.Prelude.{◌≡◌, ℕ, ◌<◌, not, length, find, IfOk, MatchOption};
 ghost use Rattle.graph_terms.specs.Graph.{is_merge_ignore, line_passes};
 ghost use Rattle.graph_meaning.specs.Rules.{IsCycle, IsUnreleased, IsOutsideSection, IsNotDescending, IsReleaseFault, IsRace, modes_commute};
-ghost use Rattle.explain_graph.specs.Explanation.{IsCycleReason, IsUnreleasedReason, IsSectionReason, IsDescendsReason, IsReleaseReason, IsConflictReason};
+ghost use Rattle.explain_graph.specs.Explanation.{IsCycleReason, IsUnreleasedReason, IsSectionReason, IsDescendsReason, IsReleaseReason, IsConflictReason, IsOtherRace};
+ghost use Rattle.race_check.specs.Topmost.{IsTopmostRace};
 
 use explanations::paths::{shortest_cycle, shortest_path};
-use explanations::races::{RaceReason, explain_race};
+use explanations::races::{RaceReason, SharedPoint, explain_race, least_shared};
 use explanations::sections::{freed, lock_of, release_of, sections_of};
 use graph_meaning::laws::edges_between_lines;
 use graph_model::graph::Graph;
 use graph_terms::verb::{Edge, Mode, Verb};
 use index_spaces::NoMemory;
+use race_check::topmost_race;
 use std::alloc::Global;
 use tried_advice::advise;
 use tried_advice::form::Form;
@@ -73,9 +75,18 @@ pub struct Sections {
     pub second: Vec<u32>,
 }
 
+/// Two lines that race, and where they meet.
+#[derive(Clone, Copy, Debug, PartialEq, Eq)]
+pub struct OtherRace {
+    pub first: u32,
+    pub second: u32,
+    pub shared: SharedPoint,
+}
+
 /// Two lines that race, and why they do, with the sections in which they lie, which do not set them
 /// apart, whether both reduce in one way into the point that they share, and what orders them and breaks
-/// no rule. `None` where nothing does that was tried.
+/// no rule. `None` where nothing does that was tried. Besides the race whose later line stands first, where
+/// that is another.
 #[derive(Drop)]
 pub struct ConflictReason {
     pub first: u32,
@@ -84,6 +95,7 @@ pub struct ConflictReason {
     pub commutes: bool,
     pub sections: Sections,
     pub advice: Option<Form>,
+    pub topmost: Option<OtherRace>,
 }
 
 /// Explains a cycle.
@@ -244,6 +256,7 @@ pub(crate) fn explain_conflict(
         sections.first.as_slice(),
         sections.second.as_slice(),
     )?;
+    let topmost = explain_topmost(alloc, graph, first, second)?;
     Ok(ConflictReason {
         first,
         second,
@@ -251,7 +264,33 @@ pub(crate) fn explain_conflict(
         commutes,
         sections,
         advice,
+        topmost,
     })
+}
+
+/// The race whose later line stands first, where that is not the one that is told.
+fn explain_topmost(
+    alloc: Global,
+    graph: &Graph,
+    first: u32,
+    second: u32,
+) -> Result<Option<OtherRace>, NoMemory>
+    requires refused { IsRace graph.now first second }
+    ensures { IfOk result (λ o. MatchOption o (IsTopmostRace graph.now first second) (IsOtherRace graph.now first second)) }
+{
+    let pair = topmost_race(alloc, graph, first, second)?;
+    if pair.0 == first && pair.1 == second {
+        return Ok(None);
+    }
+    let met = least_shared(alloc, graph, pair.0, pair.1)?;
+    match met {
+        Some(shared) => Ok(Some(OtherRace {
+            first: pair.0,
+            second: pair.1,
+            shared,
+        })),
+        None => unreachable!(),
+    }
 }
 
 /// Whether two uses may come in either order.

@@ -25,6 +25,7 @@ use Rattle.explain_graph.specs.declared.reasons.SectionReason.{SectionReason}
 use Rattle.explain_graph.specs.declared.reasons.DescendsReason.{DescendsReason}
 use Rattle.explain_graph.specs.declared.reasons.ReleaseReason.{ReleaseReason}
 use Rattle.explain_graph.specs.declared.reasons.ConflictReason.{ConflictReason}
+use Rattle.explain_graph.specs.declared.reasons.OtherRace.{OtherRace}
 use Rattle.explain_graph.specs.declared.reasons.Sections.{Sections}
 use Rattle.explain_graph.specs.declared.explanation.Explanation.{Explanation}
 use Rattle.explain_graph.specs.declared.explanation.Explanation.TheVariants.{Cycle, Unreleased, Section, Descends, ReleaseFault, Race}
@@ -226,12 +227,17 @@ besides_text g ls r = codes "sections would not set them apart: they also use a 
 abbrev pub sections_text : GraphValue → TextLines → ConflictReason → List ℕ
 sections_text g ls r = cond r.commutes (cond (lines_need_order g r.first r.second) (besides_text g ls r) (apart_text g ls r.sections r.first r.second)) (ordered_text g ls r)
 
+-- the race whose later line stands first, where that is another
+abbrev pub topmost_text : GraphValue → TextLines → Option OtherRace → List ℕ
+topmost_text g ls None = []
+topmost_text g ls (Some r) = codes "going down the file, these race first:\n" ++ (numbered g ls r.first ++ (numbered g ls r.second ++ shared_text g ls r.shared r.first r.second))
+
 abbrev pub race_text : GraphValue → TextLines → ConflictReason → List ℕ
 race_text g ls r =
     refused_two g (codes "race") r.first r.second
     ++ (numbered g ls r.first ++ (numbered g ls r.second ++ (shared_text g ls r.race.shared r.first r.second
     ++ (codes "neither waits for the other\n" ++ (meeting_text g ls r.race.meeting
-    ++ (advice_text g ls r.advice ++ sections_text g ls r))))))
+    ++ (advice_text g ls r.advice ++ (sections_text g ls r ++ topmost_text g ls r.topmost)))))))
 
 abbrev pub explanation_text : GraphValue → TextLines → Explanation → List ℕ
 explanation_text g ls (Cycle r) = cycle_text g ls r

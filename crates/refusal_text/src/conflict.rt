@@ -4,15 +4,15 @@ ghost use Rattle.std.specs.Prelude.{◌≡◌, ◌<◌, ◌+◌, ◌++◌, ◌&&
 ghost use Rattle.std.specs.List.{list_any};
 ghost use Rattle.graph_terms.specs.Graph.{columns, data_columns, line_passes, is_shared};
 ghost use Rattle.graph_terms.specs.Reservations.{both_shared};
-ghost use Rattle.explain_graph.specs.Explanation.{NamesMeeting};
-ghost use Rattle.refusal_text.specs.Refused.{mode_word, any_column_name, shared_text, meeting_text, on_line, on_merge, advice_by, wait_text, order_text, form_text, advice_text, on_of, most_told, told_few, few_lines_text, in_sections, are_equal, takes, of_one_lock, have_pair, none_text, turn_text, turns_text, pair_by, pair_text, pairs_with, pairs_text, apart_text, named_text, ordered_text, besides_text, sections_text, race_text};
+ghost use Rattle.explain_graph.specs.Explanation.{NamesMeeting, NamesRace};
+ghost use Rattle.refusal_text.specs.Refused.{mode_word, any_column_name, shared_text, meeting_text, on_line, on_merge, advice_by, wait_text, order_text, form_text, advice_text, on_of, most_told, told_few, few_lines_text, in_sections, are_equal, takes, of_one_lock, have_pair, none_text, turn_text, turns_text, pair_by, pair_text, pairs_with, pairs_text, apart_text, named_text, ordered_text, besides_text, sections_text, topmost_text, race_text};
 ghost use Rattle.explain_text.specs.Lines.{by_number};
 
 use crate::bounds::MAX_SECTIONS;
 use crate::lines::{put_lines, put_name};
 use crate::orders::lines_need_order;
 use crate::refused::put_refused_two;
-use explain_graph::reasons::{ConflictReason, Sections};
+use explain_graph::reasons::{ConflictReason, OtherRace, Sections};
 use explain_text::lines::{put_by_number, put_edges, put_numbered};
 use explain_text::{Lines, Text};
 use explanations::meetings::Meeting;
@@ -35,6 +35,7 @@ pub(crate) fn put_conflict(
     requires second { reason.now.second < length graph.now.lines }
     requires column { reason.now.race.shared.one.column < length (columns graph.now) + length (data_columns graph.now) }
     requires meeting { IfSome reason.now.race.meeting (NamesMeeting graph.now) }
+    requires topmost { IfSome reason.now.topmost (NamesRace graph.now) }
     ensures { OnOk result (text.new ≡ text.old ++ race_text graph.now lines.now reason.now) }
 {
     put_refused_two(text, graph, b"race", reason.first, reason.second)?;
@@ -51,7 +52,27 @@ pub(crate) fn put_conflict(
     text.put(b"neither waits for the other\n")?;
     put_meeting(text, graph, lines, &reason.race.meeting)?;
     put_advice(text, graph, lines, reason.advice)?;
-    put_sections(text, graph, lines, reason)
+    put_sections(text, graph, lines, reason)?;
+    put_topmost(text, graph, lines, &reason.topmost)
+}
+
+/// Puts the race whose later line stands first, where that is another.
+fn put_topmost(
+    text: &mut Text,
+    graph: &Graph,
+    lines: &Lines,
+    topmost: &Option<OtherRace>,
+) -> Result<(), NoMemory>
+    requires { IfSome topmost.now (NamesRace graph.now) }
+    ensures { OnOk result (text.new ≡ text.old ++ topmost_text graph.now lines.now topmost.now) }
+{
+    let Some(race) = topmost else {
+        return Ok(());
+    };
+    text.put(b"going down the file, these race first:\n")?;
+    put_numbered(text, graph, lines, race.first)?;
+    put_numbered(text, graph, lines, race.second)?;
+    put_shared(text, graph, lines, &race.shared, race.first, race.second)
 }
 
 /// Puts the point that two lines share, and how they use it.
