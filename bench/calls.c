@@ -46,15 +46,16 @@ static double median(double *seconds, int count) {
     return seconds[count / 2];
 }
 
-static void nothing(const struct realm_call *call, void *context) { (void)call, (void)context; }
+static uint32_t nothing(const struct realm_call *call, void *context) { return (void)call, (void)context, 0; }
 
-static void doze(const struct realm_call *call, void *context) {
+static uint32_t doze(const struct realm_call *call, void *context) {
     (void)call, (void)context;
     nanosleep(&(struct timespec){0, 50000000}, 0);
+    return 0;
 }
 
 /* The seconds of a run of so many calls, each with these accesses; %u stands for its number. */
-static double calls_take(uint32_t count, const char *accesses, void (*body)(const struct realm_call *, void *), uint32_t threads) {
+static double calls_take(uint32_t count, const char *accesses, uint32_t (*body)(const struct realm_call *, void *), uint32_t threads) {
     struct realm_body bodies[] = {{"body", body, 0}};
     struct realm_run run = {0};
     struct realm_verdict verdict;

@@ -11,6 +11,7 @@ uint32_t proved_realm_run_new(const uint8_t *text, size_t length, uint32_t slots
 uint32_t proved_realm_run_issue(struct proved_held *run, uint32_t *line);
 uint32_t proved_realm_run_take(struct proved_held *run, uint32_t line, struct proved_held *out, uint32_t *other);
 uint32_t proved_realm_work_perform(struct proved_held *work);
+uint32_t proved_realm_work_finish(struct proved_held *work, uint32_t verdict);
 uint32_t proved_realm_run_put_back(struct proved_held *run, struct proved_held *work);
 uint32_t proved_realm_run_woken(struct proved_held *run, uint32_t *line);
 uint32_t proved_realm_run_word(struct proved_held *run, uint32_t line, uint8_t *out, size_t room, uint64_t *written);

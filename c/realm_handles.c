@@ -108,7 +108,6 @@ uint32_t realm_reserve(const uint64_t *handle, struct realm_entry **out) {
     entry->held.at = 0;
     entry->run = 0;
     entry->table = 0;
-    entry->is_all_done = 0;
     *out = entry;
     return REALM_DID;
 }

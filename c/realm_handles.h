@@ -23,7 +23,6 @@ struct realm_entry {
     uint32_t kind;
     struct proved_held held;
     uint64_t run;               /* of work: the number of its run */
-    int is_all_done;            /* of a run: realm_run_all or realm_run_all_with has performed all that can be */
     struct realm_table *table;  /* of events: their table */
     uint64_t thread;            /* of a closed table: who closed it */
 };

@@ -41,6 +41,15 @@ uint32_t realm_work_perform(struct realm_work *work) {
     return status;
 }
 
+uint32_t realm_work_finish(struct realm_work *work, uint32_t verdict) {
+    struct realm_entry *entry;
+    uint32_t status = realm_enter(&work->at, KIND_WORK, &entry);
+    if (status) return status;
+    status = proved_realm_work_finish(&entry->held, verdict);
+    realm_leave(entry);
+    return status;
+}
+
 /* What the call of work tells, of a struct that is empty. The proved calls say how many values and accesses there are. */
 uint32_t realm_tell_call(struct proved_held *work, struct realm_call *call) {
     struct realm_call told = {0};
@@ -112,29 +121,12 @@ uint32_t realm_run_state(struct realm_run *run, struct realm_run_lines *lines) {
     return status;
 }
 
-/* Whether one of the first operations of a run, so many, is a call. */
-static int has_call(struct proved_held *run, uint32_t count) {
-    uint8_t word[sizeof((struct realm_call *)0)->word];
-    uint64_t written;
-    for (uint32_t line = 0; line < count; line++)
-        if (proved_realm_run_word(run, line, word, sizeof word, &written) == REALM_RUN_DONE) return 1;
-    return 0;
-}
-
-/* Whether a report would have to perform operations of a graph with calls. What waits for what never comes counts as left, so it is
-   asked for first whether all was performed. */
-static int are_calls_left(struct realm_entry *run) {
-    struct realm_run_lines lines;
-    if (run->is_all_done || proved_realm_run_state(&run->held, &lines) != REALM_RUN_DONE || lines.out) return 0;
-    return lines.left && has_call(&run->held, lines.unissued + lines.issued + lines.ended);
-}
-
 uint32_t realm_run_report(struct realm_run *run, uint8_t *out, size_t room, uint64_t *written) {
     struct realm_entry *entry;
     *written = 0;
     uint32_t status = realm_enter(&run->at, KIND_RUN, &entry);
     if (status) return status;
-    status = are_calls_left(entry) ? REALM_MISUSE_CALLS_LEFT : proved_realm_run_report(&entry->held, out, room, written);
+    status = proved_realm_run_report(&entry->held, out, room, written);
     realm_leave(entry);
     return status;
 }

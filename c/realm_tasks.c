@@ -541,10 +541,6 @@ static const char *line_on(uint32_t status) {
     case REALM_MISUSE_OTHER_RUN: return "the datum is of another runtime";
     case REALM_MISUSE_NO_BODY: return "the task has no body";
     case REALM_MISUSE_FORGOTTEN: return "tasks were overlooked, an error of the library's own";
-    case REALM_MISUSE_IN_BODY: return "the body of a task calls the runtime that runs it";
-    case REALM_MISUSE_OVERLAP: return "a byte of the datum is in another datum of the runtime";
-    case REALM_MISUSE_MEET: return "two uses of the task are of one datum, but for different tiles";
-    case REALM_MISUSE_NEEDED: return "a task that was inserted with the datum has not ended";
     default: return 0;
     }
 }

@@ -158,24 +158,26 @@ static uint32_t turns_of(const struct realm_call *call) {
     return turns;
 }
 
-/* Runs the body of a call. Turns are taken from the lowest on and no lock is taken within them, so no two threads wait for each other. */
-static void run_body(struct loop *loop, uint32_t line, struct proved_held *work) {
+/* Runs the body of a call, where there is one to run: whether it faulted. Turns are taken from the lowest on and no lock is taken within
+   them, so no two threads wait for each other. */
+static int run_body(struct loop *loop, uint32_t line, struct proved_held *work) {
     struct realm_call call;
-    if (!loop->has_calls || realm_tell_call(work, &call)) return;
+    if (!loop->has_calls || realm_tell_call(work, &call)) return 0;
     call.operation = line;
     call.work = work;
     const struct realm_body *body = body_of(loop, call.word);
     uint32_t turns = turns_of(&call);
     for (uint32_t i = 0; i < COLUMN_TURNS; i++)
         if (turns >> i & 1) pthread_mutex_lock(&loop->columns[i]);
-    body->run(&call, body->context);
+    uint32_t answer = body->run(&call, body->context);
     for (uint32_t i = COLUMN_TURNS; i-- > 0;)
         if (turns >> i & 1) pthread_mutex_unlock(&loop->columns[i]);
+    return answer != 0;
 }
 
 static void perform(struct loop *loop, uint32_t line, struct proved_held *work) {
-    run_body(loop, line, work);
-    proved_realm_work_perform(work);
+    uint32_t verdict = run_body(loop, line, work) ? REALM_FAULT : REALM_FINE;
+    proved_realm_work_finish(work, verdict);
 }
 
 /* One turn of a thread, under the lock: it does a line, or parks, or ends the loop. */
@@ -317,7 +319,6 @@ static uint32_t run_all(struct realm_run *run, uint32_t threads, const struct re
     /* (a thread that is cancelled here would leave the others with a loop that is gone) */
     pthread_setcancelstate(PTHREAD_CANCEL_DISABLE, &cancels);
     status = run_entered(&entry->held, threads, bodies, bodies ? count : 0);
-    entry->is_all_done |= status == REALM_RUN_DONE;
     pthread_setcancelstate(cancels, &cancels);
     realm_leave(entry);
     return status;

@@ -89,7 +89,7 @@ uint32_t realm_word(uint32_t kind, uint32_t number, uint8_t *out, size_t room, u
    one names the same thing, and where that is used up each copy says so. A run whose lines are performed by realm_run_all needs
    no other call than new, report and free. Threads that perform lines themselves issue, take and put back one at a time, under
    a lock of the program's, and perform side by side, since realm_work_perform takes no run. Whatever they do, the report is
-   that of realm_eval. */
+   that of realm_eval, and where bodies of calls faulted that of an evaluation in which just those calls fault. */
 struct realm_run { uint64_t at; };
 struct realm_work { uint64_t at; };
 
@@ -135,12 +135,13 @@ uint32_t realm_run_all(struct realm_run *run, uint32_t threads);
 /* The same, and runs the body of each call that is not cancelled: the function of the table with its word, the first one of several,
    by the thread that performs the call, with the context that stands beside it. Bodies run side by side; those that reduce into
    one column take turns, as do some that reduce into others. A body uses no memory of data but that of its call's accesses, and
-   changes none that it only reads. It returns, and leaves in no other way. It may call the library, but calls on this run answer IN_USE.
-   The table and its words stay as they are meanwhile. Misuse: NO_BODY where a call of the graph has a word that is not in the table,
-   and then nothing is performed. */
+   changes none that it only reads. It answers 0, or a fault, which is any other number: what is ordered behind its call is cancelled
+   then, and what it wrote stands. It returns, and leaves in no other way. It may call the library, but calls on this run answer IN_USE.
+   The table and its words stay as they are meanwhile. DONE also where bodies faulted: the report tells which calls did. Misuse: NO_BODY
+   where a call of the graph has a word that is not in the table, and then nothing is performed. */
 struct realm_body {
     const char *word;
-    void (*run)(const struct realm_call *call, void *context);
+    uint32_t (*run)(const struct realm_call *call, void *context);
     void *context;
 };
 uint32_t realm_run_all_with(struct realm_run *run, uint32_t threads, const struct realm_body *bodies, size_t count);
@@ -174,8 +175,13 @@ uint32_t realm_work_call(struct realm_work *work, struct realm_call *call);
    Misuse: PERFORMED. */
 uint32_t realm_work_interval(struct realm_work *work, uint32_t access, uint32_t number, struct realm_interval *interval);
 
-/* Performs an operation that was taken. DONE. Misuse: PERFORMED. */
+/* Performs an operation that was taken; of a call whose body was to be run, that it was run and is fine. DONE. Misuse: PERFORMED. */
 uint32_t realm_work_perform(struct realm_work *work);
+
+/* The same with a verdict on the body of a call: FAULT where it faulted, so that what is ordered behind the call is cancelled. DONE. Misuse:
+   PERFORMED; WRONG where a fault is said of an operation that is no call, or is cancelled; RANGE where the verdict is another number. */
+enum realm_body_verdict { REALM_FINE = 0, REALM_FAULT = 1 };
+uint32_t realm_work_finish(struct realm_work *work, uint32_t verdict);
 
 /* Puts an operation back that was performed: it ends. DONE; the work is used up, and its struct is empty. Misuse: OTHER_RUN where
    it was taken from another run, UNPERFORMED, REPORTED. */
@@ -198,8 +204,8 @@ uint32_t realm_run_state(struct realm_run *run, struct realm_run_lines *lines);
 
 /* Does what is left on the calling thread, and gives the report. DONE, NO_ROOM, NO_MEMORY; it may be called again, and nothing
    else but free is done with the run from then on. Misuse: WORK_OUT, also where work was freed that was not put back: such a
-   run never gives a report; CALLS_LEFT where operations are left of a graph with calls and realm_run_all_with has not done all that
-   can be performed. */
+   run never gives a report; CALLS_LEFT exactly where a call has not ended and waits, itself or through others, for nothing that never
+   comes, want of memory aside: a report has no body for it. */
 uint32_t realm_run_report(struct realm_run *run, uint8_t *out, size_t room, uint64_t *written);
 
 /* Frees a run, or work that is not to be put back: its operation is out for good. DONE; the struct is then empty. They may be freed
@@ -212,8 +218,7 @@ uint32_t realm_work_free(struct realm_work *work);
 uint32_t realm_explain(const uint8_t *text, size_t length, uint8_t *out, size_t room, uint64_t *written);
 
 /* One line on an answer, without an end of line: of a number of realm_status, or of one of realm_run_status. Either has a line on
-   each number of realm_misuse but those of tasks alone, 27 to 30, of which realm_tasks_message has, and one that says so on a number that
-   is none of these. DONE, NO_ROOM. */
+   each number of realm_misuse, and one that says so on a number that is none of these. DONE, NO_ROOM. */
 uint32_t realm_message(uint32_t status, uint8_t *out, size_t room, uint64_t *written);
 uint32_t realm_run_message(uint32_t status, uint8_t *out, size_t room, uint64_t *written);
 

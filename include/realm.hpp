@@ -5,9 +5,11 @@
 #include "realm_events.h"
 #include "realm_tasks.h"
 #include <cstdint>
+#include <exception>
 #include <functional>
 #include <initializer_list>
 #include <map>
+#include <mutex>
 #include <optional>
 #include <span>
 #include <string>
@@ -119,14 +121,40 @@ template <typename Raw, uint32_t (*Free)(Raw *)> class Handle {
     Raw held{0};
 };
 
-// The body of a call. Several threads call it at once, each for a call of its own. It throws nothing: one that does ends the program.
-using Body = std::function<void(const realm_call &)>;
+// The body of a call, of a lambda or a function object. Several threads call it at once, each for a call of its own. It answers nothing, or 0
+// or a fault, which is any other number. What it throws is a fault too.
+class Body {
+  public:
+    template <typename Call>
+        requires(!std::is_same_v<Call, Body> && std::is_invocable_v<Call &, const realm_call &>)
+    Body(Call body) : run([body = std::move(body)](const realm_call &call) mutable -> uint32_t {
+        using Answer = std::invoke_result_t<Call &, const realm_call &>;
+        static_assert(!std::is_same_v<Answer, bool>, "a body answers 0 where it is fine");
+        if constexpr (std::is_void_v<Answer>) return body(call), REALM_FINE;
+        else return body(call) != 0 ? REALM_FAULT : REALM_FINE;
+    }) {}
+    uint32_t operator()(const realm_call &call) const { return run(call); }
+
+  private:
+    std::function<uint32_t(const realm_call &)> run;
+};
+
+// What the first of some bodies threw.
+struct Thrown {
+    std::mutex lock;
+    std::exception_ptr first;
+    void keep(std::exception_ptr thrown) {
+        std::lock_guard<std::mutex> held(lock);
+        if (!first) first = std::move(thrown);
+    }
+};
 
 // The work of one operation. A run whose work was freed before it was put back gives no report.
 struct Work : Handle<realm_work, realm_work_free> {
     uint32_t call(realm_call &call) { return realm_work_call(&held, &call); }
     uint32_t interval(uint32_t access, uint32_t number, realm_interval &interval) { return realm_work_interval(&held, access, number, &interval); }
     uint32_t perform() { return realm_work_perform(&held); }
+    uint32_t finish(uint32_t verdict) { return realm_work_finish(&held, verdict); }
 };
 
 struct Run : Handle<realm_run, realm_run_free> {
@@ -140,12 +168,30 @@ struct Run : Handle<realm_run, realm_run_free> {
     }
     // Performs all that can be performed, on 1 to 8 threads with the calling one.
     uint32_t perform_all(uint32_t threads) { return realm_run_all(&held, threads); }
-    // The same with the bodies of calls, by their words.
+    // The same with the bodies of calls, by their words. What the first of them threw is thrown once no body runs any more; the run stays, and its
+    // report tells which calls faulted.
     uint32_t perform_all(uint32_t threads, const std::map<std::string, Body> &bodies) {
+        struct Bound { const Body *body; Thrown *thrown; };
+        Thrown thrown;
+        std::vector<Bound> bound;
         std::vector<realm_body> table;
-        auto run = [](const realm_call *call, void *body) noexcept { (*static_cast<const Body *>(body))(*call); };
-        for (const auto &[word, body] : bodies) table.push_back({word.c_str(), run, const_cast<Body *>(&body)});
-        return realm_run_all_with(&held, threads, table.data(), table.size());
+        auto run = [](const realm_call *call, void *at) noexcept -> uint32_t {
+            const Bound *it = static_cast<const Bound *>(at);
+            try {
+                return (*it->body)(*call);
+            } catch (...) {
+                it->thrown->keep(std::current_exception());
+                return REALM_FAULT;
+            }
+        };
+        bound.reserve(bodies.size());
+        for (const auto &[word, body] : bodies) {
+            bound.push_back({&body, &thrown});
+            table.push_back({word.c_str(), run, &bound.back()});
+        }
+        uint32_t status = realm_run_all_with(&held, threads, table.data(), table.size());
+        if (thrown.first) std::rethrow_exception(thrown.first);
+        return status;
     }
     uint32_t state(realm_run_lines &lines) { return realm_run_state(&held, &lines); }
     uint32_t issue(uint32_t &line) { return realm_run_issue(&held, &line); }

@@ -7,7 +7,7 @@
 #define REALM_VERSION "0.3.0"
 
 enum realm_misuse {
-    REALM_MISUSE_WRONG = 11,        /* the handle holds another kind of thing than the call asks for */
+    REALM_MISUSE_WRONG = 11,        /* the handle holds another kind of thing than the call asks for, as work without a body where a fault is said of one */
     REALM_MISUSE_EMPTY = 12,        /* the handle is empty */
     REALM_MISUSE_USED_UP = 13,      /* what the handle held is used up or freed, or no call gave this number */
     REALM_MISUSE_OTHER_RUN = 14,    /* the work is of another run, two handles are of different tables of events, or a datum is of another runtime */
@@ -22,7 +22,7 @@ enum realm_misuse {
     REALM_MISUSE_FORGOTTEN = 24,    /* realm_run_all overlooked operations that could be taken, an error of its own; it performed them at its end. A wait
                                        overlooked tasks, an error of its own */
     REALM_MISUSE_NO_BODY = 25,      /* a call of the graph has a word that is not in the table, or a task has no body */
-    REALM_MISUSE_CALLS_LEFT = 26,   /* operations are left of a graph with calls, which a report has no bodies for */
+    REALM_MISUSE_CALLS_LEFT = 26,   /* a call is left whose body was not run, and a report has none for it */
     REALM_MISUSE_IN_BODY = 27,      /* the body of a task calls the runtime that runs it */
     REALM_MISUSE_OVERLAP = 28,      /* a byte of the datum is in another datum of the runtime */
     REALM_MISUSE_MEET = 29,         /* two uses of a task are of one datum, but for different tiles */

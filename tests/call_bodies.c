@@ -33,7 +33,7 @@ static void end(struct seen *seen) {
 }
 
 /* A body that stays until two have begun, or for so many seconds. */
-static void stay(struct seen *seen, const struct realm_call *call, int seconds, long nanoseconds) {
+static uint32_t stay(struct seen *seen, const struct realm_call *call, int seconds, long nanoseconds) {
     struct timespec until;
     clock_gettime(CLOCK_REALTIME, &until);
     until.tv_sec += seconds;
@@ -43,15 +43,17 @@ static void stay(struct seen *seen, const struct realm_call *call, int seconds, 
     while (seen->begun < 2 && !pthread_cond_timedwait(&seen->changed, &seen->lock, &until)) {}
     pthread_mutex_unlock(&seen->lock);
     end(seen);
+    return 0;
 }
 
-static void meet(const struct realm_call *call, void *context) { stay(context, call, 20, 0); }
+static uint32_t meet(const struct realm_call *call, void *context) { return stay(context, call, 20, 0); }
 
-static void add(const struct realm_call *call, void *context) { stay(context, call, 0, 50000000); }
+static uint32_t add(const struct realm_call *call, void *context) { return stay(context, call, 0, 50000000); }
 
-static void note(const struct realm_call *call, void *context) {
+static uint32_t note(const struct realm_call *call, void *context) {
     begin(context, call);
     end(context);
+    return 0;
 }
 
 /* What a run by four threads answers, and what the bodies saw. */

@@ -173,7 +173,7 @@ static void words_on_answers(void) {
     SAYS(realm_run_message(REALM_RUN_NEVER, out, sizeof out, &written), "the operation never comes");
     SAYS(realm_run_message(REALM_MISUSE_FORGOTTEN, out, sizeof out, &written), "the loop has left an operation that comes");
     SAYS(realm_run_message(REALM_MISUSE_NO_BODY, out, sizeof out, &written), "a call of the graph has a word that is not in the table");
-    SAYS(realm_run_message(REALM_MISUSE_CALLS_LEFT, out, sizeof out, &written), "operations are left of a graph with calls");
+    SAYS(realm_run_message(REALM_MISUSE_CALLS_LEFT, out, sizeof out, &written), "a call is left whose body was not run");
     SAYS(realm_run_message(99, out, sizeof out, &written), "no answer has this number");
     WANTS(realm_message(REALM_UNFIT, out, 3, &written), REALM_NO_ROOM);
     WANTS(written, 23);

@@ -148,7 +148,8 @@ static void on_runs(struct thread *t) {
     case 0: case 1: begin_run(t); break;
     case 2: case 3: note(realm_run_issue(CHOSEN(realm_run, &runs[at]), &line)); break;
     case 4: case 5: case 6: take_line(t, at); break;
-    case 7: case 8: case 9: note(realm_work_perform(CHOSEN(realm_work, &works[work]))); break;
+    case 7: case 8: note(realm_work_perform(CHOSEN(realm_work, &works[work]))); break;
+    case 9: note(realm_work_finish(CHOSEN(realm_work, &works[work]), draw(t, 3))); break;
     case 10: case 11: case 12: note(realm_run_put_back(CHOSEN(realm_run, &runs[at]), CHOSEN(realm_work, &works[work]))); break;
     case 13: note(realm_run_woken(CHOSEN(realm_run, &runs[at]), &line)); break;
     case 14: state_of(t, at); break;

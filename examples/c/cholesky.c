@@ -7,20 +7,23 @@
 #include <string.h>
 
 /* The bodies: the values of a call are the tile that it writes, and the column of the tiles that it reads. */
-static void run_potrf(const struct realm_call *call, void *context) {
+static uint32_t run_potrf(const struct realm_call *call, void *context) {
     const struct matrix *m = context;
     potrf(m->side, tile(m, call->value[0], call->value[0]));
+    return 0;
 }
 
-static void run_trsm(const struct realm_call *call, void *context) {
+static uint32_t run_trsm(const struct realm_call *call, void *context) {
     const struct matrix *m = context;
     trsm(m->side, tile(m, call->value[1], call->value[1]), tile(m, call->value[0], call->value[1]));
+    return 0;
 }
 
-static void run_gemm(const struct realm_call *call, void *context) {
+static uint32_t run_gemm(const struct realm_call *call, void *context) {
     const struct matrix *m = context;
     uint64_t i = call->value[0], j = call->value[1], k = call->value[2];
     gemm(m->side, tile(m, i, k), tile(m, j, k), tile(m, i, j));
+    return 0;
 }
 
 /* Performs the graph by threads. The number of what was answered, 0 for done. */

@@ -59,7 +59,7 @@ class CallNumbers(ctypes.Structure):
     ]
 
 
-BODY = ctypes.CFUNCTYPE(None, ctypes.POINTER(CallNumbers), ctypes.c_void_p)
+BODY = ctypes.CFUNCTYPE(U32, ctypes.POINTER(CallNumbers), ctypes.c_void_p)
 
 
 class BodyOfWord(ctypes.Structure):
@@ -134,6 +134,7 @@ _CALLS = {
     "realm_run_take": [_HANDLE, U32, _HANDLE, _NUMBER],
     "realm_work_call": [_HANDLE, ctypes.POINTER(CallNumbers)],
     "realm_work_perform": [_HANDLE],
+    "realm_work_finish": [_HANDLE, U32],
     "realm_run_put_back": [_HANDLE, _HANDLE],
     "realm_run_woken": [_HANDLE, _NUMBER],
     "realm_run_state": [_HANDLE, ctypes.POINTER(Lines)],

@@ -14,6 +14,7 @@ from .texts import bytes_of, like, refused, within
 
 NOT_YET, BUSY_LOCK, BUSY_COLUMN, NONE, FULL, OVER, NEVER = 1, 2, 3, 4, 5, 9, 10
 MODES = ("read", "write", "sum", "min", "max")
+FINE, FAULT = 0, 1
 
 
 @dataclass(frozen=True)
@@ -55,20 +56,25 @@ def _call(numbers: CallNumbers) -> Call:
 
 
 class _Table:
-    """Bodies as the library takes them. After a body that raised no other is run, and what the first one raised is kept."""
+    """Bodies as the library takes them. One that raises faults, and what the first one raised is kept. After an interrupt no other is run: each faults."""
 
-    def __init__(self, bodies: Mapping[str, Callable[[Call], None]]):
+    def __init__(self, bodies: Mapping[str, Callable[[Call], object]]):
         self.raised: list[BaseException] = []
+        self._is_interrupted = False
         self._functions = [self._guarded(it) for it in bodies.values()]  # (the library holds no reference)
         self.entries = (BodyOfWord * len(bodies))(*(BodyOfWord(word.encode(), run, None) for word, run in zip(bodies, self._functions)))
 
-    def _guarded(self, body: Callable[[Call], None]) -> BODY:
+    def _guarded(self, body: Callable[[Call], object]) -> BODY:
         def run(numbers, _):
             try:
-                if not self.raised:
-                    body(_call(numbers.contents))
+                if self._is_interrupted:
+                    return FAULT
+                body(_call(numbers.contents))
+                return FINE
             except BaseException as error:  # (nothing may pass through the library's own frames)
+                self._is_interrupted |= not isinstance(error, Exception)
                 self.raised.append(error)
+                return FAULT
 
         return BODY(run)
 
@@ -84,9 +90,9 @@ class Work:
         numbers = CallNumbers()
         return _call(numbers) if checked(LIB.realm_work_call(self._handle, numbers), NONE) == DONE else None
 
-    def perform(self) -> None:
-        """Performs the operation."""
-        checked(LIB.realm_work_perform(self._handle))
+    def perform(self, faulted: bool = False) -> None:
+        """Performs the operation. Of a call whose body faulted it is said so, and what is ordered behind the call is cancelled."""
+        checked(LIB.realm_work_finish(self._handle, FAULT if faulted else FINE))
 
     def put_back(self) -> None:
         """Puts the operation back into its run, where it ends."""
@@ -101,7 +107,7 @@ class Run:
     """A run of a graph, with so many event slots; 0 is as many as needed, from 256 to 8,192. Raises Refused where the graph is not accepted.
 
     `perform_all` does all by threads of the library's own. Else threads of the program's issue, take and put back one at a time, under a lock
-    of theirs. Whatever they do, the report is that of `evaluate`. A run may be a context, and is freed behind it.
+    of theirs. Whatever they do, the report is that of `evaluate`, with the faults of the bodies of calls. A run may be a context, and is freed behind it.
     """
 
     def __init__(self, text: str | bytes, slots: int = 0):
@@ -111,11 +117,13 @@ class Run:
         if status != DONE:
             raise refused(status, verdict, given)
 
-    def perform_all(self, threads: int = 4, bodies: Mapping[str, Callable[[Call], None]] | None = None) -> None:
+    def perform_all(self, threads: int = 4, bodies: Mapping[str, Callable[[Call], object]] | None = None) -> None:
         """Performs all that can be performed on 1 to 8 threads, with the calling one.
 
-        A graph with calls needs `bodies`, a function for the word of each. They run side by side as far as they let other threads go on. What one of them
-        raises is raised once no body runs any more; no other is begun then, and the run is freed. An interrupt from the keyboard is seen then too.
+        A graph with calls needs `bodies`, a function for the word of each. They run side by side as far as they let other threads go on. One that
+        raises is a fault of its call: what is ordered behind it is cancelled, and the others are performed. What the first one raised is raised once no
+        body runs any more; the run stays, and its report tells which calls faulted. An interrupt from the keyboard is seen then too, and no body is begun
+        after it.
         """
         if bodies is None:
             checked(LIB.realm_run_all(self._handle, within(threads, 0, 8)))
@@ -124,7 +132,6 @@ class Run:
         count = within(threads, 0, 8)
         status = aside(lambda: LIB.realm_run_all_with(self._handle, count, table.entries, len(bodies)), table.raised.append)
         if table.raised:
-            self.free()
             raise table.raised[0]
         checked(status)
 

@@ -112,9 +112,27 @@ class Runs(unittest.TestCase):
             with self.assertRaises(realm.Misuse):
                 run.perform_all(2, {"potrf": told.append})
             self.assertEqual((run.state().unissued, told), (4, []))
-        with realm.Run(text) as run, self.assertRaises(ZeroDivisionError):
-            run.perform_all(2, {"potrf": lambda call: 1 // 0, "trsm": told.append, "gemm": told.append, "norm": told.append})
-        self.assertEqual(told, [])
+        with realm.Run(text) as run:
+            with self.assertRaises(ZeroDivisionError):
+                run.perform_all(2, {"potrf": told.append, "trsm": lambda call: 1 // 0, "gemm": told.append, "norm": told.append})
+            ends = [line.split()[2] for line in run.report().splitlines() if line.startswith("op ")]
+        self.assertEqual((ends, sorted(it.word for it in told)), (["done", "faulted", "cancelled", "done"], ["norm", "potrf"]))
+
+    def test_bodies_that_fault_by_hand(self):
+        with realm.Run("realm 3\nf = call f\ng = call g on f\nend\n") as run:
+            while run.issue() is not None:
+                pass
+            work = run.take(0)
+            self.assertEqual(work.call().word, "f")
+            work.perform(faulted=True)
+            work.put_back()
+            self.misuse(26, run.report)
+            work = run.take(1)
+            self.assertIsNone(work.call())
+            self.misuse(11, work.perform, True)
+            work.perform()
+            work.put_back()
+            self.assertEqual(run.report(), "realm-report 1\nop f faulted poisoned\nop g cancelled poisoned\ndone\n")
 
     def test_an_interrupt_while_bodies_run(self):
         text = "realm 3\n" + "".join(f"k{k} = call busy\n" for k in range(500)) + "end\n"

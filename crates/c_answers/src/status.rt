@@ -91,5 +91,17 @@ pub const FORGOTTEN: u32 = 24;
 /// A call of the graph has a word that is not in the table of bodies. No call here answers it.
 pub const NO_BODY: u32 = 25;
 
-/// Operations are left of a graph with calls. No call here answers it.
+/// A report is asked for while a call is left whose body was not run.
 pub const CALLS_LEFT: u32 = 26;
+
+/// The body of a task calls the runtime that runs it. Neither this nor what follows is answered by a call here.
+pub const IN_BODY: u32 = 27;
+
+/// A byte of a datum is in another datum of the runtime.
+pub const OVERLAP: u32 = 28;
+
+/// Two uses of a task are of one datum, but for different tiles.
+pub const MEET: u32 = 29;
+
+/// A task that was inserted with a datum has not ended, or is of the present window.
+pub const NEEDED: u32 = 30;

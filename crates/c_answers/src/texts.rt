@@ -4,7 +4,7 @@ ghost use Rattle.std.specs.Prelude.{◌≡◌, ◌≤◌, IfSome};
 ghost use Rattle.graph_meaning.specs.Evaluation.{outcome};
 ghost use Rattle.graph_words.specs.Text.{text};
 ghost use Rattle.graph_answers.specs.Answer.{IsTimelineText};
-ghost use Rattle.run_report.specs.Report.{evaluation_report};
+ghost use Rattle.run_report.specs.Report.{FitsGraph, evaluation_report, report};
 
 use graph_model::graph::Graph;
 use graph_terms::outcome::Outcome;
@@ -27,10 +27,18 @@ pub fn graph_text(alloc: Global, graph: &Graph) -> Option<Vec<u8>>
     }
 }
 
-/// The text of a report.
+/// The text of the report of the evaluation.
 pub fn report_text(alloc: Global, graph: &Graph, found: &Outcome) -> Option<Vec<u8>>
     requires { found.now ≡ outcome graph.now found.now.trace }
     ensures { IfSome result (λ report. report.items ≡ evaluation_report graph.now) }
+{
+    outcome_text(alloc, graph, found)
+}
+
+/// The text of the report of an outcome.
+pub fn outcome_text(alloc: Global, graph: &Graph, found: &Outcome) -> Option<Vec<u8>>
+    requires { FitsGraph graph.now found.now }
+    ensures { IfSome result (λ text. text.items ≡ report graph.now found.now) }
 {
     let mut sink = TextSink::new(alloc);
     match put_report(&mut sink, graph, found) {

@@ -55,7 +55,7 @@ run_line runs.NoMemory = codes "out of memory"
 run_line runs.Over = codes "the operation is not issued, is out or has ended"
 run_line runs.Never = codes "the operation never comes"
 
--- the numbers of misuse, which are the same for texts, runs and events, and their lines
+-- the numbers of misuse, which are the same for texts, runs, events and tasks, and their lines
 abbrev pub misuse_number : Misuse → ℕ
 misuse_number misuses.Wrong = 11
 misuse_number misuses.Empty = 12
@@ -72,6 +72,10 @@ misuse_number misuses.OtherThread = 23
 misuse_number misuses.Forgotten = 24
 misuse_number misuses.NoBody = 25
 misuse_number misuses.CallsLeft = 26
+misuse_number misuses.InBody = 27
+misuse_number misuses.Overlap = 28
+misuse_number misuses.Meet = 29
+misuse_number misuses.Needed = 30
 
 abbrev pub misuse_line : Misuse → List ℕ
 misuse_line misuses.Wrong = codes "the handle holds another kind of thing than the call asks for"
@@ -88,7 +92,11 @@ misuse_line misuses.Filled = codes "the handle that is to be filled holds someth
 misuse_line misuses.OtherThread = codes "the closed table stays with the thread that closed it"
 misuse_line misuses.Forgotten = codes "the loop has left an operation that comes"
 misuse_line misuses.NoBody = codes "a call of the graph has a word that is not in the table"
-misuse_line misuses.CallsLeft = codes "operations are left of a graph with calls"
+misuse_line misuses.CallsLeft = codes "a call is left whose body was not run"
+misuse_line misuses.InBody = codes "the body of a task calls the runtime that runs it"
+misuse_line misuses.Overlap = codes "a byte of the datum is in another datum of the runtime"
+misuse_line misuses.Meet = codes "two uses of the task are of one datum, but for different tiles"
+misuse_line misuses.Needed = codes "a task that was inserted with the datum has not ended"
 
 -- the line on a number that no answer has
 abbrev pub unknown_line : List ℕ

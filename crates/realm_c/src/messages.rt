@@ -9,10 +9,10 @@ ghost use Rattle.realm_c.specs.declared.messages.Misuse.{Misuse as TheMisuse};
 
 use c_answers::buffer::hand_out;
 use c_answers::status::{
-    BUSY_COLUMN, BUSY_LOCK, CALLS_LEFT, DONE, EMPTY, FILLED, FORGOTTEN, FULL, IN_USE, NEVER,
-    NO_BODY, NO_MEMORY, NO_ROOM, NONE, NOT_YET, OTHER_RUN, OTHER_THREAD, OVER, PERFORMED, RANGE,
-    REPORTED, SLOTS, TOO_LONG, UNFIT, UNLAWFUL, UNPERFORMED, UNREAD, USAGE, USED_UP, WORK_OUT,
-    WRONG,
+    BUSY_COLUMN, BUSY_LOCK, CALLS_LEFT, DONE, EMPTY, FILLED, FORGOTTEN, FULL, IN_BODY, IN_USE,
+    MEET, NEEDED, NEVER, NO_BODY, NO_MEMORY, NO_ROOM, NONE, NOT_YET, OTHER_RUN, OTHER_THREAD, OVER,
+    OVERLAP, PERFORMED, RANGE, REPORTED, SLOTS, TOO_LONG, UNFIT, UNLAWFUL, UNPERFORMED, UNREAD,
+    USAGE, USED_UP, WORK_OUT, WRONG,
 };
 
 /// What a call on texts answers.
@@ -62,6 +62,10 @@ pub(crate) enum Misuse {
     Forgotten,
     NoBody,
     CallsLeft,
+    InBody,
+    Overlap,
+    Meet,
+    Needed,
 }
 
 /// Puts a line on an answer of the calls on texts, or on misuse, into `out` with its length beside it: 0; 6 exactly where
@@ -175,6 +179,10 @@ fn misuse_of(status: u32) -> Option<Misuse>
         FORGOTTEN => Some(Misuse::Forgotten),
         NO_BODY => Some(Misuse::NoBody),
         CALLS_LEFT => Some(Misuse::CallsLeft),
+        IN_BODY => Some(Misuse::InBody),
+        OVERLAP => Some(Misuse::Overlap),
+        MEET => Some(Misuse::Meet),
+        NEEDED => Some(Misuse::Needed),
         _ => None,
     }
 }
@@ -235,7 +243,11 @@ impl Misuse {
             Misuse::OtherThread => b"the closed table stays with the thread that closed it",
             Misuse::Forgotten => b"the loop has left an operation that comes",
             Misuse::NoBody => b"a call of the graph has a word that is not in the table",
-            Misuse::CallsLeft => b"operations are left of a graph with calls",
+            Misuse::CallsLeft => b"a call is left whose body was not run",
+            Misuse::InBody => b"the body of a task calls the runtime that runs it",
+            Misuse::Overlap => b"a byte of the datum is in another datum of the runtime",
+            Misuse::Meet => b"two uses of the task are of one datum, but for different tiles",
+            Misuse::Needed => b"a task that was inserted with the datum has not ended",
         }
     }
 }

@@ -1,2 +1,4 @@
 pub mod AsBox
+pub mod Bodies
+pub mod Endings
 pub mod Moves

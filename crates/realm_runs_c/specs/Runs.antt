@@ -1,21 +1,25 @@
 -- Runs whose lines the threads of a caller perform: what a handle holds, and what each call did.
-use Rattle.std.specs.Prelude.{◌≡◌, ◌≢◌, ℕ, ◌⊎◌, ◌<◌, Option, Some, None, [], length, max, cond, ◌==◌}
+use Rattle.std.specs.Prelude.{◌≡◌, ◌≢◌, ℕ, ◌⊎◌, ◌<◌, Bool, true, Option, Some, None, [], length, max, cond, ◌==◌}
 use Rattle.std.specs.Arc.{arc_value}
 use Rattle.graph_terms.specs.Graph.{GraphValue}
+use Rattle.graph_terms.specs.declared.outcome.End.{End}
+use Rattle.graph_terms.specs.declared.outcome.End.TheVariants.{Done, Faulted, Waiting}
 use Rattle.event_table.specs.declared.limits.TheConstants.{MAX_SLOTS}
 use Rattle.run_core.specs.Core.{CoreValue, IsCore, slots_given}
 use Rattle.run_core.specs.Counts.{lines_at, lines_left}
 use Rattle.run_core.specs.Finishing.{NothingOut}
 use Rattle.run_core.specs.Steps.{Attempts, Issues, Wakes, with_end}
 use Rattle.run_core.specs.WhatIsOut.{OneMoreOut, OutAfter, SameOut}
-use Rattle.run_core.specs.Works.{FinishedValue, IsWork, KeepsWork}
+use Rattle.run_core.specs.Works.{FinishedValue, IsFinished, IsWork, KeepsWork}
 use Rattle.run_core.specs.declared.answers.Attempt.{Attempt}
 use Rattle.run_core.specs.declared.answers.Attempt.TheVariants as attempts
 use Rattle.run_parts.specs.declared.answers.Issue.{Issue}
 use Rattle.run_parts.specs.declared.answers.Issue.TheVariants as issues
 use Rattle.run_parts.specs.declared.answers.Stage.TheVariants as stages
 use Rattle.run_parts.specs.declared.answers.Thing.TheVariants as things
-use Rattle.c_answers.specs.declared.status.TheConstants.{WRONG, EMPTY, UNPERFORMED, REPORTED, PERFORMED}
+use Rattle.c_answers.specs.declared.status.TheConstants.{WRONG, EMPTY, RANGE, UNPERFORMED, REPORTED, PERFORMED}
+use Rattle.realm_runs_c.specs.Calls.{has_body}
+use Rattle.realm_runs_c.specs.Ends.{end_in, end_of}
 use Rattle.realm_runs_c.specs.declared.starting.TheConstants.{DEFAULT_SLOTS}
 use Rattle.realm_runs_c.specs.declared.run.Lines.{Lines}
 use Rattle.realm_runs_c.specs.declared.token.Over.{Over}
@@ -91,6 +95,20 @@ abbrev pub held_of : Token → Option Token
 held_of token.Empty = None
 held_of t = Some t
 
+-- what a call answers that performs work with the verdict of a host, 0 for fine and 1 for a fault, and 0 where it performs it: a fault is said of work whose body is run
+abbrev pub verdict_misuse : Bool → ℕ → ℕ
+verdict_misuse body verdict = cond (verdict == 0) 0 (cond (verdict == 1) (cond body 0 WRONG) RANGE)
+
+abbrev pub finish_misuse : Option Token → ℕ → ℕ
+finish_misuse (Some (token.Taken t)) verdict = verdict_misuse (has_body t) verdict
+finish_misuse held verdict = taken_misuse held
+
+-- how lines have ended of which a handle tells
+abbrev pub ends_in : Option Token → ℕ → End
+ends_in (Some (token.Run c)) i = end_in c i
+ends_in (Some (token.Over o)) i = end_of o.found i
+ends_in _ i = Waiting
+
 -- the graph of what has come to its end
 abbrev pub graph_over : Over → GraphValue
 graph_over o = (arc_value o.graph).graph
@@ -164,6 +182,20 @@ IsTaken _ g held = held ≡ None
 -- the work is that of a line which is out of some core of its graph
 abbrev pub IsOfRun : Taken → Type 0
 IsOfRun t = (c : CoreValue) × IsCore c × (c.graph ≡ (arc_value t.graph).graph) × IsWork c t.work
+
+-- and the core is one whose host may say of calls that they faulted
+abbrev pub IsOfHost : Taken → Type 0
+IsOfHost t = (c : CoreValue) × IsCore c × (c.hosted ≡ true) × (c.graph ≡ (arc_value t.graph).graph) × IsWork c t.work
+
+-- the end of a call whose body has this verdict
+abbrev pub end_said : ℕ → End
+end_said verdict = cond (verdict == 0) Done Faulted
+
+-- the work was performed, with this verdict of its body
+pub record FinishedBy (t : Taken) (verdict : ℕ) (f : FinishedValue) : Type 0 where
+  pub line : f.line ≡ t.work.line
+  pub said : has_body t ≡ true → f.ends ≡ end_said verdict
+  pub finished : (c : CoreValue) → IsCore c → c.hosted ≡ true → c.graph ≡ (arc_value t.graph).graph → IsWork c t.work → IsFinished c f
 
 -- the next line was issued, or none was, and this was answered
 pub record IssuedBy (c d : CoreValue) (number before after : ℕ) : Type 0 where

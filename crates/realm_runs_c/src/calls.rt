@@ -3,8 +3,9 @@
 
 ghost use Rattle.std.specs.Prelude.{◌≡◌, ◌≢◌, option_map, slice_get};
 ghost use Rattle.std.specs.Arc.{arc_value};
+ghost use Rattle.graph_terms.specs.Graph.{is_call, line_passes};
 ghost use Rattle.c_answers.specs.Buffers.{Holds, IsCut};
-ghost use Rattle.realm_runs_c.specs.Calls.{Tells, TellsWord, access_numbers, accesses_of, call_at, call_of, interval_numbers, intervals_of, mode_number, values_of};
+ghost use Rattle.realm_runs_c.specs.Calls.{Tells, TellsWord, access_numbers, accesses_of, call_at, call_of, has_body, interval_numbers, intervals_of, mode_number, values_of};
 ghost use Rattle.realm_runs_c.specs.Runs.{IfRun, IfTaken, run_misuse, taken_misuse};
 
 use crate::held::Held;
@@ -298,6 +299,20 @@ fn call_of(taken: &Taken) -> Option<&Call>
         return None;
     }
     call_at(taken.graph.graph(), taken.work.line())
+}
+
+/// Whether there is one.
+pub(crate) fn has_body(taken: &Taken) -> bool
+    ensures { result ≡ has_body taken.now }
+{
+    !taken.work.is_cancelled() && is_call(taken.graph.graph(), taken.work.line())
+}
+
+/// Whether a line of a graph is a call.
+pub(crate) fn is_call(graph: &Graph, line: u32) -> bool
+    ensures { result ≡ line_passes is_call graph.now line }
+{
+    line < graph.lines() && matches!(graph.line(line).verb, Verb::Call { .. })
 }
 
 /// The call that a line of a graph is.

@@ -1,23 +1,25 @@
 //! What is done to what handles of runs and of work hold. A value of another kind than a call asks for stays, and the
 //! number that says so is answered.
 
-ghost use Rattle.std.specs.Prelude.{◌≡◌, ◌≢◌, ℕ, ◌<◌, ◌≤◌, ◌⊎◌, None, Some, IfOk, IfErr, IfSome, length};
+ghost use Rattle.std.specs.Prelude.{◌≡◌, ◌≢◌, ℕ, ◌<◌, ◌≤◌, ◌⊎◌, Bool, true, None, Some, IfOk, IfErr, IfSome, length};
 ghost use Rattle.std.specs.Arc.{arc_value};
 ghost use Rattle.graph_terms.specs.Graph.{GraphValue};
-ghost use Rattle.run_report.specs.Report.{evaluation_report};
+ghost use Rattle.graph_terms.specs.declared.outcome.End.TheVariants.{Done};
 ghost use Rattle.run_core.specs.Core.{CoreValue, IsCore};
 ghost use Rattle.run_core.specs.Finishing.{NothingOut};
 ghost use Rattle.run_core.specs.Works.{IsFinished, IsWork};
-ghost use Rattle.realm_runs_c.specs.Runs.{HoldsFinished, HoldsOver, HoldsRun, HoldsTaken, IfFinished, IfRun, IfTaken, IsOfRun, IsRunOf, IsTaken, IssuedBy, MayReport, PutBackBy, TakenBy, WokenBy, attempt_number, finished_misuse, graph_over, held_of, issue_number, issued_line, lines_of, other_of, report_misuse, run_misuse, taken_misuse};
+ghost use Rattle.realm_runs_c.specs.Calls.{has_body};
+ghost use Rattle.realm_runs_c.specs.Ends.{AgreesWith, IsCall, LeavesCall, end_in, report_with};
+ghost use Rattle.realm_runs_c.specs.Runs.{HoldsFinished, HoldsOver, HoldsRun, HoldsTaken, IfFinished, IfRun, IfTaken, IsOfRun, IsRunOf, IsTaken, IssuedBy, MayReport, PutBackBy, TakenBy, WokenBy, attempt_number, ends_in, finished_misuse, graph_over, held_of, issue_number, issued_line, lines_of, other_of, report_misuse, run_misuse, taken_misuse};
 
 use crate::held::{Held, room};
 use crate::run::{Lines, Run};
 use crate::token::{Taken, Token};
 use c_answers::status::{
-    BUSY_COLUMN, BUSY_LOCK, DONE, EMPTY, FULL, NEVER, NO_MEMORY, NONE, NOT_YET, OVER, PERFORMED,
-    RANGE, REPORTED, UNPERFORMED, WORK_OUT, WRONG,
+    BUSY_COLUMN, BUSY_LOCK, CALLS_LEFT, DONE, EMPTY, FULL, NEVER, NO_MEMORY, NONE, NOT_YET, OVER,
+    PERFORMED, RANGE, REPORTED, UNPERFORMED, WORK_OUT, WRONG,
 };
-use c_answers::texts::report_text;
+use c_answers::texts::outcome_text;
 use race_check::checked::Checked;
 use run_core::{Attempt, Finished, Issue, Thing};
 use std::alloc::Global;
@@ -182,7 +184,7 @@ pub(crate) fn perform_in(token: &mut Token) -> u32
     requires { IfTaken (Some token.old) IsOfRun }
     ensures misuse { taken_misuse (Some token.old) ≢ 0 → (result ≡ taken_misuse (Some token.old)) × (token.new ≡ token.old) }
     ensures performed { IfTaken (Some token.old) (λ t. (result ≡ 0) × HoldsFinished (Some token.new) (λ f. (f.line ≡ t.work.line)
-        × ((c : CoreValue) → IsCore c → c.graph ≡ (arc_value t.graph).graph → IsWork c t.work → IsFinished c f))) }
+        × (has_body t ≡ true → f.ends ≡ Done) × ((c : CoreValue) → IsCore c → c.graph ≡ (arc_value t.graph).graph → IsWork c t.work → IsFinished c f))) }
 {
     match std::mem::replace(token, Token::Empty) {
         Token::Taken(taken) => {
@@ -200,6 +202,7 @@ pub(crate) fn perform_in(token: &mut Token) -> u32
 fn performed(taken: Taken) -> Finished
     requires { IsOfRun taken }
     ensures line { result.line ≡ taken.work.line }
+    ensures said { has_body taken ≡ true → result.ends ≡ Done }
     ensures finished { (c : CoreValue) → IsCore c → c.graph ≡ (arc_value taken.graph).graph → IsWork c taken.work → IsFinished c result }
 {
     let Taken { work, graph } = taken;
@@ -300,32 +303,37 @@ pub(crate) fn count_in(token: &mut Token, lines: &mut Lines) -> u32
     }
 }
 
-/// Brings a run to its end, unless work is out.
-fn end_of(run: Run) -> (Token, u32)
-    ensures done { NothingOut run → (result.1 ≡ 0) × HoldsOver (Some result.0) (λ o. graph_over o ≡ run.graph) }
-    ensures out { result.1 ≢ 0 → (result.1 ≡ WORK_OUT) × (0 < (lines_of run).out) × (result.0 ≡ Token.Run run) }
+/// Brings a run to its end, unless work is out or a call is left.
+fn end_of(alloc: Global, run: Run) -> (Token, u32)
     ensures over { result.1 ≡ 0 → HoldsOver (Some result.0) (λ o. graph_over o ≡ run.graph) }
-    ensures again { (g : GraphValue) → MayReport (Some (Token.Run run)) g → MayReport (Some result.0) g }
+    ensures kept { result.1 ≢ 0 → result.0 ≡ Token.Run run }
+    ensures out { result.1 ≡ WORK_OUT → 0 < (lines_of run).out }
+    ensures nothing_out { NothingOut run → result.1 ≢ WORK_OUT }
+    ensures left { result.1 ≡ CALLS_LEFT → LeavesCall run }
+    ensures answers { (result.1 ≡ 0) ⊎ ((result.1 ≡ 7) ⊎ ((result.1 ≡ WORK_OUT) ⊎ (result.1 ≡ CALLS_LEFT))) }
+    ensures ends { (i : ℕ) → IsCall run.graph i → ends_in (Some result.0) i ≡ end_in run i }
 {
-    let (run, lines) = run.count();
-    if lines.out != 0 {
-        return (Token::Run(run), WORK_OUT);
+    let (run, status) = run.may_end(alloc);
+    if status != DONE {
+        return (Token::Run(run), status);
     }
     (Token::Over(run.end()), DONE)
 }
 
-fn finish_in(token: &mut Token) -> u32
+fn finish_in(alloc: Global, token: &mut Token) -> u32
     ensures misuse { report_misuse (Some token.old) ≢ 0 → (result ≡ report_misuse (Some token.old)) × (token.new ≡ token.old) }
-    ensures done { (g : GraphValue) → MayReport (Some token.old) g → result ≡ 0 }
     ensures over { (g : GraphValue) → IsRunOf (Some token.old) g → result ≡ 0 → HoldsOver (Some token.new) (λ o. graph_over o ≡ g) }
     ensures out { result ≡ WORK_OUT → HoldsRun (Some token.old) (λ c. 0 < (lines_of c).out) × (token.new ≡ token.old) }
-    ensures answers { (g : GraphValue) → IsRunOf (Some token.old) g → (result ≡ 0) ⊎ (result ≡ WORK_OUT) }
+    ensures nothing_out { (g : GraphValue) → MayReport (Some token.old) g → result ≢ WORK_OUT }
+    ensures left { result ≡ CALLS_LEFT → HoldsRun (Some token.old) LeavesCall × (token.new ≡ token.old) }
+    ensures answers { (g : GraphValue) → IsRunOf (Some token.old) g → (result ≡ 0) ⊎ ((result ≡ 7) ⊎ ((result ≡ WORK_OUT) ⊎ (result ≡ CALLS_LEFT))) }
+    ensures ends { (g : GraphValue) (i : ℕ) → IsRunOf (Some token.old) g → IsCall g i → ends_in (Some token.new) i ≡ ends_in (Some token.old) i }
     ensures again { (g : GraphValue) → MayReport (Some token.old) g → MayReport (Some token.new) g }
     ensures not_cut { result ≢ 6 }
 {
     match std::mem::replace(token, Token::Empty) {
         Token::Run(run) => {
-            let (kept, status) = end_of(run);
+            let (kept, status) = end_of(alloc, run);
             *token = kept;
             status
         }
@@ -333,34 +341,46 @@ fn finish_in(token: &mut Token) -> u32
             *token = Token::Over(over);
             DONE
         }
-        other => {
-            *token = other;
+        Token::Taken(taken) => {
+            *token = Token::Taken(taken);
             WRONG
         }
+        Token::Finished(finished) => {
+            *token = Token::Finished(finished);
+            WRONG
+        }
+        Token::Empty => WRONG,
     }
 }
 
 /// The report of a run that is over. None comes where memory ran out.
 fn report_in(alloc: Global, token: &Token) -> Option<Vec<u8>>
-    ensures { (g : GraphValue) → HoldsOver (Some token.now) (λ o. graph_over o ≡ g) → IfSome result (λ report. report.items ≡ evaluation_report g) }
+    ensures { (g : GraphValue) (faults : ℕ → Bool) → HoldsOver (Some token.now) (λ o. graph_over o ≡ g) → AgreesWith g (ends_in (Some token.now)) faults
+        → IfSome result (λ report. report.items ≡ report_with faults g) }
 {
     match token {
-        Token::Over(over) => report_text(alloc, over.graph.graph(), &over.found),
+        Token::Over(over) => {
+            over.fits();
+            outcome_text(alloc, over.graph.graph(), &over.found)
+        }
         _ => None,
     }
 }
 
 /// Brings a run to its end, and gives its report, or the number of why not.
 pub(crate) fn report_of(alloc: Global, token: &mut Token) -> Result<Vec<u8>, u32>
-    ensures report { IfOk result (λ report. (g : GraphValue) → IsRunOf (Some token.old) g → report.items ≡ evaluation_report g) }
+    ensures report { IfOk result (λ report. (g : GraphValue) (faults : ℕ → Bool) → IsRunOf (Some token.old) g → AgreesWith g (ends_in (Some token.old)) faults
+        → report.items ≡ report_with faults g) }
     ensures kind { IfOk result (λ _. report_misuse (Some token.old) ≡ 0) }
     ensures misuse { IfErr result (λ status. report_misuse (Some token.old) ≢ 0 → (status ≡ report_misuse (Some token.old)) × (token.new ≡ token.old)) }
     ensures out { IfErr result (λ status. status ≡ WORK_OUT → HoldsRun (Some token.old) (λ c. 0 < (lines_of c).out) × (token.new ≡ token.old)) }
-    ensures no_memory { IfErr result (λ status. (g : GraphValue) → MayReport (Some token.old) g → status ≡ 7) }
+    ensures left { IfErr result (λ status. status ≡ CALLS_LEFT → HoldsRun (Some token.old) LeavesCall × (token.new ≡ token.old)) }
+    ensures answers { IfErr result (λ status. (g : GraphValue) → MayReport (Some token.old) g → (status ≡ 7) ⊎ (status ≡ CALLS_LEFT)) }
+    ensures ends { (g : GraphValue) (i : ℕ) → IsRunOf (Some token.old) g → IsCall g i → ends_in (Some token.new) i ≡ ends_in (Some token.old) i }
     ensures again { (g : GraphValue) → MayReport (Some token.old) g → MayReport (Some token.new) g }
     ensures not_done { IfErr result (λ status. (status ≢ 0) × (status ≢ 6)) }
 {
-    let status = finish_in(token);
+    let status = finish_in(alloc, token);
     if status != DONE {
         return Err(status);
     }

@@ -8,3 +8,4 @@ mod run;
 mod running;
 mod starting;
 mod token;
+mod verdicts;

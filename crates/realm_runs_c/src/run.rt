@@ -1,19 +1,20 @@
 //! A run that goes on.
 
-ghost use Rattle.std.specs.Prelude.{◌≡◌, ◌≤◌, ◌↔◌, false, IfSome};
-ghost use Rattle.run_core.specs.Core.{slots_given, unissued};
+ghost use Rattle.std.specs.Prelude.{◌≡◌, ◌≤◌, ◌↔◌, true, IfSome};
+ghost use Rattle.run_core.specs.Core.{slots_given, unissued_for_host};
 ghost use Rattle.run_core.specs.Finishing.{NothingOut};
 ghost use Rattle.run_core.specs.Resting.{core_by, RestsBy};
 ghost use Rattle.realm_runs_c.specs.Runs.{lines_of};
 
 use crate::calls::call_at;
-use crate::token::Over;
 use graph_terms::call::Call;
 use race_check::checked::Checked;
 use run_core::{Attempt, Core, Finished, Issue, MAX_SLOTS, Resting, Stage};
 use std::alloc::Global;
 use std::marker::Model;
 use std::sync::Arc;
+
+mod ending;
 
 /// A run that goes on, and the graph of it, which the work of its lines shares. The last that is freed frees the graph.
 #[derive(Drop)]
@@ -25,7 +26,7 @@ pub struct Run {
 impl Model for Run {
     ghost use Rattle.std.specs.Arc.{arc_value};
     ghost use Rattle.run_core.specs.Core.{CoreValue};
-    ghost use Rattle.std.specs.Prelude.{◌≡◌, false};
+    ghost use Rattle.std.specs.Prelude.{◌≡◌, true};
     ghost use Rattle.run_core.specs.Resting.{core_by, RestsBy};
 
     ghost Value = { CoreValue };
@@ -34,7 +35,7 @@ impl Model for Run {
 
     ghost invariant = { λ a. record {
       rests : RestsBy (arc_value a.graph).graph a.core;
-      unhosted : a.core.hosted ≡ false;
+      hosted : a.core.hosted ≡ true;
     } };
 }
 
@@ -69,7 +70,7 @@ impl Lines {
 impl Run {
     ghost use Rattle.std.specs.Prelude.{◌≡◌, ◌≢◌, ℕ, ◌<◌, ◌≤◌, ◌↔◌, [], length, option_map, IfOk, IfSome, IfNone};
     ghost use Rattle.std.specs.Arc.{arc_value};
-    ghost use Rattle.run_core.specs.Core.{CoreValue, IsCore, slots_given, unissued};
+    ghost use Rattle.run_core.specs.Core.{CoreValue, IsCore, slots_given, unissued_for_host};
     ghost use Rattle.run_core.specs.Finishing.{NothingOut};
     ghost use Rattle.run_core.specs.Steps.{Attempts, Issues, Wakes, with_end};
     ghost use Rattle.run_core.specs.WhatIsOut.{OneMoreOut, OutAfter, SameOut};
@@ -81,7 +82,7 @@ impl Run {
     pub(crate) fn begin(alloc: Global, checked: Checked, slots: u32) -> Option<Run>
         requires enough { checked.need ≤ slots }
         requires most { slots ≤ MAX_SLOTS }
-        ensures { IfSome result (λ c. (c ≡ unissued checked.graph slots) × (slots_given c ≡ slots) × NothingOut c) }
+        ensures { IfSome result (λ c. (c ≡ unissued_for_host checked.graph slots) × (slots_given c ≡ slots) × NothingOut c) }
     {
         let Ok(graph) = Arc::new(alloc, checked) else {
             return None;
@@ -187,18 +188,6 @@ impl Run {
         let core = awake.rest();
         (Run { graph, core }, lines)
     }
-
-    /// What a run gives that is brought to its end.
-    pub(crate) fn end(self) -> Over
-        requires { NothingOut self }
-        ensures { (arc_value result.graph).graph ≡ self.graph }
-    {
-        let Run { graph, core } = self;
-        let mut awake = core.wake(&graph);
-        awake.finish();
-        let found = awake.outcome();
-        Over { graph, found }
-    }
 }
 
 /// A core in which no line is issued. None comes where memory ran out.
@@ -206,12 +195,12 @@ fn prepare(alloc: Global, checked: &Checked, slots: u32) -> Option<Resting>
     requires enough { checked.now.need ≤ slots }
     requires most { slots ≤ MAX_SLOTS }
     ensures rests { IfSome result (λ r. RestsBy checked.now.graph r) }
-    ensures core { IfSome result (λ r. core_by checked.now.graph r ≡ unissued checked.now.graph slots) }
+    ensures core { IfSome result (λ r. core_by checked.now.graph r ≡ unissued_for_host checked.now.graph slots) }
     ensures slots { IfSome result (λ r. slots_given (core_by checked.now.graph r) ≡ slots) }
     ensures nothing_out { IfSome result (λ r. NothingOut (core_by checked.now.graph r)) }
-    ensures unhosted { IfSome result (λ r. r.hosted ≡ false) }
+    ensures hosted { IfSome result (λ r. r.hosted ≡ true) }
 {
-    match Core::prepare(alloc, checked, slots) {
+    match Core::prepare_for_host(alloc, checked, slots) {
         Ok(core) => Some(core.rest()),
         Err(_) => None,
     }

@@ -1,20 +1,23 @@
 //! Runs whose lines the threads of a caller perform: one call at a time works on a run, and each line is performed
 //! beside the others. Each call answers what a handle is that it can't be given, and changes nothing then.
 
-ghost use Rattle.std.specs.Prelude.{◌≡◌, ◌≢◌, ℕ, ◌<◌, ◌≤◌, ◌⊎◌, None, length};
+ghost use Rattle.std.specs.Prelude.{◌≡◌, ◌≢◌, ℕ, ◌<◌, ◌≤◌, ◌⊎◌, Bool, true, None, length};
 ghost use Rattle.std.specs.Arc.{arc_value};
 ghost use Rattle.graph_terms.specs.Graph.{GraphValue};
+ghost use Rattle.graph_terms.specs.declared.outcome.End.TheVariants.{Done};
 ghost use Rattle.run_report.specs.Report.{evaluation_report};
 ghost use Rattle.run_core.specs.Core.{CoreValue, IsCore};
 ghost use Rattle.run_core.specs.Works.{IsFinished, IsWork};
 ghost use Rattle.c_answers.specs.Buffers.{Holds, IsCut};
-ghost use Rattle.realm_runs_c.specs.Runs.{HoldsAny, HoldsFinished, HoldsRun, IfFinished, IfRun, IfTaken, IsOfRun, IsRunOf, IssuedBy, MayReport, PutBackBy, TakenBy, WokenBy, finished_misuse, lines_of, no_lines, report_misuse, run_misuse, taken_misuse};
+ghost use Rattle.realm_runs_c.specs.Calls.{has_body};
+ghost use Rattle.realm_runs_c.specs.Ends.{AgreesWith, IsCall, LeavesCall, NoneFaulted, report_with};
+ghost use Rattle.realm_runs_c.specs.Runs.{HoldsAny, HoldsFinished, HoldsRun, IfFinished, IfRun, IfTaken, IsOfRun, IsRunOf, IssuedBy, MayReport, PutBackBy, TakenBy, WokenBy, ends_in, finished_misuse, lines_of, no_lines, report_misuse, run_misuse, taken_misuse};
 
 use crate::held::Held;
 use crate::inside::{count_in, issue_in, perform_in, put_back_in, report_of, take_in, woken_in};
 use crate::run::Lines;
 use c_answers::buffer::hand_out;
-use c_answers::status::{EMPTY, FILLED, RANGE, WORK_OUT};
+use c_answers::status::{CALLS_LEFT, EMPTY, FILLED, RANGE, WORK_OUT};
 use std::alloc::Global;
 
 /// Issues the next line of the text: 0 with its number; 4 where all are issued; 5 where no slot is free.
@@ -62,14 +65,14 @@ pub extern "C" fn realm_run_take(
     status
 }
 
-/// Performs a line that was taken. It takes no run, so that lines are performed side by side. 0 always for such work; 20
-/// where it was performed.
+/// Performs a line that was taken. It takes no run, so that lines are performed side by side. A call whose body was to be run
+/// is done. 0 always for such work; 20 where it was performed.
 #[unsafe(no_mangle)]
 pub extern "C" fn realm_work_perform(alloc: Global, work: &mut Held) -> u32
     requires work { IfTaken work.old.value IsOfRun }
     ensures misuse { taken_misuse work.old.value ≢ 0 → (result ≡ taken_misuse work.old.value) × (work.new.value ≡ work.old.value) }
     ensures performed { IfTaken work.old.value (λ t. (result ≡ 0) × HoldsFinished work.new.value (λ f. (f.line ≡ t.work.line)
-        × ((c : CoreValue) → IsCore c → c.graph ≡ (arc_value t.graph).graph → IsWork c t.work → IsFinished c f))) }
+        × (has_body t ≡ true → f.ends ≡ Done) × ((c : CoreValue) → IsCore c → c.graph ≡ (arc_value t.graph).graph → IsWork c t.work → IsFinished c f))) }
 {
     let Some(mut token) = work.take(alloc) else {
         return EMPTY;
@@ -130,8 +133,8 @@ pub extern "C" fn realm_run_state(alloc: Global, run: &mut Held, lines: &mut Lin
 }
 
 /// Does on the calling thread what is left of a run of which no work is out, and puts the report into `out` with its
-/// length beside it: 0; 6 exactly where `out` is too short for it, and it is cut; 17 exactly where work is out, and nothing
-/// is changed; 7. It may be called again.
+/// length beside it: 0; 6 exactly where `out` is too short for it, and it is cut; 17 exactly where work is out, and 26 where a
+/// call is left of which a body would be run, and nothing is changed; 7. It may be called again.
 #[unsafe(no_mangle)]
 pub extern "C" fn realm_run_report(
     alloc: Global,
@@ -141,9 +144,15 @@ pub extern "C" fn realm_run_report(
 ) -> u32
     ensures misuse { report_misuse run.old.value ≢ 0 → (result ≡ report_misuse run.old.value) × (run.new.value ≡ run.old.value) }
     ensures work_out { result ≡ WORK_OUT → HoldsRun run.old.value (λ c. 0 < (lines_of c).out) × (run.new.value ≡ run.old.value) }
-    ensures answers { (g : GraphValue) → MayReport run.old.value g → (result ≡ 0) ⊎ ((result ≡ 6) ⊎ (result ≡ 7)) }
-    ensures done { (g : GraphValue) → IsRunOf run.old.value g → result ≡ 0 → Holds (evaluation_report g) out.old out.new written.new }
-    ensures cut { (g : GraphValue) → IsRunOf run.old.value g → result ≡ 6 → IsCut (evaluation_report g) out.old out.new written.new }
+    ensures calls_left { result ≡ CALLS_LEFT → HoldsRun run.old.value LeavesCall × (run.new.value ≡ run.old.value) }
+    ensures answers { (g : GraphValue) → MayReport run.old.value g → (result ≡ 0) ⊎ ((result ≡ 6) ⊎ ((result ≡ 7) ⊎ (result ≡ CALLS_LEFT))) }
+    ensures done { (g : GraphValue) (faults : ℕ → Bool) → IsRunOf run.old.value g → AgreesWith g (ends_in run.old.value) faults → result ≡ 0
+        → Holds (report_with faults g) out.old out.new written.new }
+    ensures cut { (g : GraphValue) (faults : ℕ → Bool) → IsRunOf run.old.value g → AgreesWith g (ends_in run.old.value) faults → result ≡ 6
+        → IsCut (report_with faults g) out.old out.new written.new }
+    ensures unfaulted { (g : GraphValue) → IsRunOf run.old.value g → NoneFaulted g (ends_in run.old.value)
+        → (result ≡ 0 → Holds (evaluation_report g) out.old out.new written.new) × (result ≡ 6 → IsCut (evaluation_report g) out.old out.new written.new) }
+    ensures bodies { (g : GraphValue) (i : ℕ) → IsRunOf run.old.value g → IsCall g i → ends_in run.new.value i ≡ ends_in run.old.value i }
     ensures again { (g : GraphValue) → MayReport run.old.value g → MayReport run.new.value g }
     ensures untouched { result ≢ 0 → result ≢ 6 → (out.new ≡ out.old) × (written.new ≡ 0) }
 {

@@ -7,7 +7,7 @@ ghost use Rattle.graph_meaning.specs.Rules.{Accepted};
 ghost use Rattle.event_table.specs.declared.limits.TheConstants.{MAX_SLOTS};
 ghost use Rattle.graph_words.specs.Limits.{text_limit};
 ghost use Rattle.graph_words.specs.Text.{GraphText};
-ghost use Rattle.run_core.specs.Core.{slots_given, unissued};
+ghost use Rattle.run_core.specs.Core.{slots_given, unissued_for_host};
 ghost use Rattle.run_core.specs.Finishing.{NothingOut};
 ghost use Rattle.c_answers.specs.Numbers.{needing, nothing, verdict_of};
 ghost use Rattle.c_answers.specs.Refusals.{status_of, IsCheckRefusal};
@@ -46,7 +46,7 @@ pub extern "C" fn realm_run_new(
     ensures empty { result ≡ FILLED → HoldsAny run.old.value }
     ensures begun { result ≡ 0 → (g : GraphValue) × (need : ℕ) × GraphText text.now g × Accepted g × IsNeed g need
         × (need ≤ slots_for slots need) × (need ≤ most_slots slots)
-        × HoldsRun run.new.value (λ c. (c ≡ unissued g (slots_for slots need)) × (slots_given c ≡ slots_for slots need) × NothingOut c) }
+        × HoldsRun run.new.value (λ c. (c ≡ unissued_for_host g (slots_for slots need)) × (slots_given c ≡ slots_for slots need) × NothingOut c) }
     ensures usage { result ≡ 2 → MAX_SLOTS < slots }
     ensures few { result ≢ 2 → result ≢ FILLED → slots ≤ MAX_SLOTS }
     ensures too_long { result ≡ 9 → text_limit text.now < length text.now }
@@ -73,7 +73,7 @@ fn new_run(alloc: Global, text: &[u8], slots: u32, run: &mut Held, out: &mut Ver
     requires nothing { out.old ≡ nothing }
     ensures begun { result ≡ 0 → (g : GraphValue) × (need : ℕ) × GraphText text.now g × Accepted g × IsNeed g need
         × (need ≤ slots_for slots need) × (need ≤ most_slots slots)
-        × HoldsRun run.new.value (λ c. (c ≡ unissued g (slots_for slots need)) × (slots_given c ≡ slots_for slots need) × NothingOut c) }
+        × HoldsRun run.new.value (λ c. (c ≡ unissued_for_host g (slots_for slots need)) × (slots_given c ≡ slots_for slots need) × NothingOut c) }
     ensures usage { result ≡ 2 → MAX_SLOTS < slots }
     ensures few { result ≢ 2 → slots ≤ MAX_SLOTS }
     ensures not_filled { result ≢ FILLED }
@@ -127,7 +127,7 @@ fn begin_run(alloc: Global, checked: Checked, slots: u32, run: &mut Held, out: &
     requires nothing { out.old ≡ nothing }
     ensures answers { (result ≡ 0) ⊎ ((result ≡ 7) ⊎ (result ≡ 8)) }
     ensures begun { result ≡ 0 → (checked.need ≤ slots_for slots checked.need) × (checked.need ≤ most_slots slots)
-        × HoldsRun run.new.value (λ c. (c ≡ unissued checked.graph (slots_for slots checked.need))
+        × HoldsRun run.new.value (λ c. (c ≡ unissued_for_host checked.graph (slots_for slots checked.need))
         × (slots_given c ≡ slots_for slots checked.need) × NothingOut c) }
     ensures untold { result ≢ 8 → out.new ≡ nothing }
     ensures slots { result ≡ 8 → (checked.need ≤ MAX_LINES_OF_THREE) × (most_slots slots < checked.need) × (out.new ≡ needing checked.need) }
@@ -151,7 +151,7 @@ fn begin_run(alloc: Global, checked: Checked, slots: u32, run: &mut Held, out: &
 fn begin(alloc: Global, checked: Checked, slots: u32) -> Option<Box<Token, Global>>
     requires enough { checked.need ≤ slots }
     requires most { slots ≤ MAX_SLOTS }
-    ensures { IfSome result (λ b. HoldsRun (Some b.value) (λ c. (c ≡ unissued checked.graph slots) × (slots_given c ≡ slots) × NothingOut c)) }
+    ensures { IfSome result (λ b. HoldsRun (Some b.value) (λ c. (c ≡ unissued_for_host checked.graph slots) × (slots_given c ≡ slots) × NothingOut c)) }
 {
     match Run::begin(alloc, checked, slots) {
         Some(run) => Box::new(alloc, Token::Run(run)).ok(),

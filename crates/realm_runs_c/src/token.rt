@@ -1,8 +1,7 @@
 //! What a handle of a run or of a line's work holds.
 
-ghost use Rattle.std.specs.Prelude.{◌≡◌};
 ghost use Rattle.std.specs.Arc.{arc_value};
-ghost use Rattle.graph_meaning.specs.Evaluation.{outcome};
+ghost use Rattle.realm_runs_c.specs.Ends.{IsEvaluated};
 
 use crate::run::Run;
 use graph_terms::outcome::Outcome;
@@ -33,7 +32,19 @@ pub struct Taken {
 pub struct Over {
     pub graph: Arc<Checked, Global>,
     pub found: Outcome,
-    ghost evaluated: { found ≡ outcome (arc_value graph).graph found.trace },
+    ghost evaluated: { IsEvaluated (arc_value graph).graph found },
+}
+
+impl Over {
+    ghost use Rattle.std.specs.Arc.{arc_value};
+    ghost use Rattle.run_report.specs.Report.{FitsGraph};
+
+    /// What a run gave has lists as long as its graph's.
+    pub(crate) fn fits(&self)
+        ensures { FitsGraph (arc_value self.now.graph).graph self.now.found }
+    {
+        let _found = &self.found;
+    }
 }
 
 fn is_send<T: Send>() {}

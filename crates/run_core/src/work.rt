@@ -49,7 +49,7 @@ impl Model for Finished {
 
 impl Work {
     ghost use Rattle.std.specs.Prelude.{◌≡◌, ◌≢◌, Bool, true, false, List};
-    ghost use Rattle.graph_terms.specs.declared.outcome.End.TheVariants.{Cancelled};
+    ghost use Rattle.graph_terms.specs.declared.outcome.End.TheVariants.{Done, Cancelled};
     ghost use Rattle.graph_meaning.specs.Evaluation.{eval_end};
     ghost use Rattle.graph_terms.specs.declared.outcome.Verdict.TheVariants.{Fine};
     ghost use Rattle.graph_terms.specs.Graph.{is_call, line_passes};
@@ -86,6 +86,7 @@ impl Work {
     pub fn perform(self, graph: &Graph) -> Finished
         requires work { (c : CoreValue) × IsCore c × (c.graph ≡ graph.now) × IsWork c self }
         ensures line { result.line ≡ self.line }
+        ensures said { self.is_cancelled ≡ false → line_passes is_call graph.now self.line ≡ true → result.ends ≡ Done }
         ensures finished { (c : CoreValue) → IsCore c → c.graph ≡ graph.now → IsWork c self → IsFinished c result }
     {
         self.perform_by(graph, Verdict::Fine)

@@ -13,7 +13,8 @@ use graph_model::graph::Graph;
 use run_parts::{Progress, Stage};
 
 impl<'g> Core<'g> {
-    ghost use Rattle.std.specs.Prelude.{◌≡◌, ◌↔◌};
+    ghost use Rattle.std.specs.Prelude.{◌≡◌, ◌<◌, ◌↔◌, length};
+    ghost use Rattle.run_state.specs.Run.{ended};
     ghost use Rattle.run_core.specs.Counts.{lines_at, lines_left};
     ghost use Rattle.run_core.specs.Finishing.{NothingOut};
 
@@ -24,6 +25,15 @@ impl<'g> Core<'g> {
     {
         let _ = self.checked.graph().lines();
         count_at(self.stages.as_slice(), stage)
+    }
+
+    /// Whether a line has ended.
+    pub fn has_ended(&self, line: u32) -> bool
+        requires { line < length self.now.graph.lines }
+        ensures { result ≡ ended self.now.run.stages line }
+    {
+        let _ = self.checked.graph().lines();
+        matches!(self.stages[line as usize], Progress::Ended(_))
     }
 
     /// How many lines come and have not ended.

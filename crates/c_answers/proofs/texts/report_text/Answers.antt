@@ -1,16 +1,10 @@
-use Rattle.std.proofs.Common.{◌≡◌, [], ap, ◌∙◌}
-use Rattle.run_report.specs.Report.{report}
+use Rattle.std.proofs.Common.{◌≡◌, ℕ, List, subst}
+use Rattle.std.specs.Prelude.{IfSome}
 use Rattle.run_report.proofs.Fitting.{outcome_fits, report_is}
-use Rattle.realm_io.specs.TextSinks.{TextSinkValue}
-use Rattle.c_answers.proofs.Sinks.{taken_is}
 use Rattle.c_answers.proofs.texts.report_text.Goals as goal
 
-pub put_report-requires : goal.put_report-requires
-put_report-requires c = outcome_fits c.args.graph.now c.args.found.now c.args.found.now.trace c.requires
+pub outcome_text-requires : goal.outcome_text-requires
+outcome_text-requires c = outcome_fits c.args.graph.now c.args.found.now c.args.found.now.trace c.requires
 
-pub returns-in-Ok : goal.returns-in-Ok
-returns-in-Ok c =
-    let graph = c.args.graph.now in
-    let found = c.args.found.now in
-    let empty : c.new-sink.result.taken ≡ [] = ap (λ (s : TextSinkValue). s.taken) c.new-sink.ensures in
-    c.into_bytes.ensures ∙ (taken_is _ _ (report graph found) empty c.in-Ok.ensures.ok ∙ report_is graph found found.trace c.requires)
+pub returns : goal.returns
+returns c = subst (λ (text : List ℕ). IfSome c.outcome_text.result (λ report. report.items ≡ text)) (report_is c.args.graph.now c.args.found.now c.args.found.now.trace c.requires) c.outcome_text.ensures

@@ -1,9 +1,18 @@
-use Rattle.std.proofs.Common.{sym, subst}
+use Rattle.std.proofs.Common.{rules, ◌≡◌, ℕ, sym, subst}
+use Rattle.run_core.specs.Core.{CoreValue}
 use Rattle.run_core.specs.Finishing.{NothingOut}
+use Rattle.realm_runs_c.specs.Ends.{IsCall, LeavesNoCall, end_in, end_of}
 use Rattle.realm_runs_c.proofs.inside.end_of.Goals as goal
 
-pub returns-then-lines-ne0-clause-done : goal.returns-then-lines-ne0-clause-done
-returns-then-lines-ne0-clause-done c = λ nothing. absurd (c.if-lines-ne0.true (c.count-run.ensures.nothing_out.1 nothing))
+pub end-requires-clause-nothing_out : goal.end-requires-clause-nothing_out
+end-requires-clause-nothing_out c =
+    let done : c.may_end-run.result.1 ≡ 0 = search rules in
+    subst NothingOut (sym c.may_end-run.ensures.same) (c.may_end-run.ensures.may done).0
 
-pub end-requires : goal.end-requires
-end-requires c = subst NothingOut (sym c.count-run.ensures.same) (c.count-run.ensures.nothing_out.0 c.if-lines-ne0.false)
+pub end-requires-clause-none_left : goal.end-requires-clause-none_left
+end-requires-clause-none_left c =
+    let done : c.may_end-run.result.1 ≡ 0 = search rules in
+    subst LeavesNoCall (sym c.may_end-run.ensures.same) (c.may_end-run.ensures.may done).1
+
+pub returns-clause-ends : goal.returns-clause-ends
+returns-clause-ends c = subst (λ (v : CoreValue). (i : ℕ) → IsCall v.graph i → end_of c.end.result.found i ≡ end_in v i) c.may_end-run.ensures.same c.end.ensures.ends
