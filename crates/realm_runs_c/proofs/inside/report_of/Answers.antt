@@ -1,5 +1,5 @@
 use Rattle.std.proofs.Common.{◌≡◌, ℕ, inl, inr, Some, sym, subst}
-use Rattle.std.specs.Prelude.{◌⊎◌, Option, None}
+use Rattle.std.specs.Prelude.{◌⊎◌}
 use Rattle.graph_terms.specs.Graph.{GraphValue}
 use Rattle.graph_terms.specs.declared.outcome.End.{End}
 use Rattle.c_answers.specs.declared.status.TheConstants.{CALLS_LEFT, WORK_OUT}

@@ -1,8 +1,7 @@
-use Rattle.std.proofs.Common.{rules, ◌≡◌, ◌∙◌, ℕ, Bool, false, List, Some, subst}
+use Rattle.std.proofs.Common.{rules, ◌≡◌, ◌∙◌, ℕ, false, List, Some, subst}
 use Rattle.std.specs.Prelude.{Option}
 use Rattle.c_answers.specs.Buffers.{Holds, IsCut}
-use Rattle.run_report.specs.Report.{evaluation_report}
-use Rattle.realm_runs_c.specs.Ends.{AgreesWith, NoneFaulted, report_with}
+use Rattle.realm_runs_c.specs.Ends.{AgreesWith, report_with}
 use Rattle.realm_runs_c.specs.Runs.{IsRunOf, ends_in}
 use Rattle.realm_runs_c.specs.declared.token.Token.{Token}
 use Rattle.realm_runs_c.proofs.Endings.{none_agrees}
