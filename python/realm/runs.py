@@ -64,6 +64,11 @@ class _Table:
         self._functions = [self._guarded(it) for it in bodies.values()]  # (the library holds no reference)
         self.entries = (BodyOfWord * len(bodies))(*(BodyOfWord(word.encode(), run, None) for word, run in zip(bodies, self._functions)))
 
+    def stop(self, error: BaseException) -> None:
+        """Has no further body run."""
+        self._is_interrupted = True
+        self.raised.append(error)
+
     def _guarded(self, body: Callable[[Call], object]) -> BODY:
         def run(numbers, _):
             try:
@@ -71,9 +76,11 @@ class _Table:
                     return FAULT
                 body(_call(numbers.contents))
                 return FINE
-            except BaseException as error:  # (nothing may pass through the library's own frames)
-                self._is_interrupted |= not isinstance(error, Exception)
+            except Exception as error:
                 self.raised.append(error)
+                return FAULT
+            except BaseException as error:  # (nothing may pass through the library's own frames)
+                self.stop(error)
                 return FAULT
 
         return BODY(run)
@@ -130,7 +137,7 @@ class Run:
             return
         table = _Table(bodies)
         count = within(threads, 0, 8)
-        status = aside(lambda: LIB.realm_run_all_with(self._handle, count, table.entries, len(bodies)), table.raised.append)
+        status = aside(lambda: LIB.realm_run_all_with(self._handle, count, table.entries, len(bodies)), table.stop)
         if table.raised:
             raise table.raised[0]
         checked(status)
