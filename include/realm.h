@@ -135,8 +135,8 @@ uint32_t realm_run_all(struct realm_run *run, uint32_t threads);
 /* The same, and runs the body of each call that is not cancelled: the function of the table with its word, the first one of several,
    by the thread that performs the call, with the context that stands beside it. Bodies run side by side; those that reduce into
    one column take turns, as do some that reduce into others. A body uses no memory of data but that of its call's accesses, and
-   changes none that it only reads. It answers 0, or a fault, which is any other number: what is ordered behind its call is cancelled
-   then, and what it wrote stands. It returns, and leaves in no other way. It may call the library, but calls on this run answer IN_USE.
+   changes none that it only reads. It answers 0, or a fault, which is any other number: the event of its call is poisoned then, and
+   what it wrote stands. It returns, and leaves in no other way. It may call the library, but calls on this run answer IN_USE.
    The table and its words stay as they are meanwhile. DONE also where bodies faulted: the report tells which calls did. Misuse: NO_BODY
    where a call of the graph has a word that is not in the table, and then nothing is performed. */
 struct realm_body {
@@ -165,7 +165,7 @@ uint32_t realm_run_issue(struct realm_run *run, uint32_t *line);
 uint32_t realm_run_take(struct realm_run *run, uint32_t line, struct realm_work *out, uint32_t *other);
 
 /* The call of an operation that was taken. DONE; NONE where it is no call, and where its wait is poisoned, so that its body is not
-   to be run; call is then left as it was. A program runs the body between this and realm_work_perform, side by side with others:
+   to be run; call is then left as it was. A program runs the body between this and realm_work_finish, side by side with others:
    what is out does not conflict, but where both reduce into one column in sections of their own; those take turns by a lock of
    the program's. The struct is put together in C of the answers of proved calls; of it `operation` and `work` are 0.
    Misuse: PERFORMED. */
@@ -175,11 +175,11 @@ uint32_t realm_work_call(struct realm_work *work, struct realm_call *call);
    Misuse: PERFORMED. */
 uint32_t realm_work_interval(struct realm_work *work, uint32_t access, uint32_t number, struct realm_interval *interval);
 
-/* Performs an operation that was taken; of a call whose body was to be run, that it was run and is fine. DONE. Misuse: PERFORMED. */
+/* Performs an operation that was taken, a call as one whose body is fine. DONE. Misuse: PERFORMED. */
 uint32_t realm_work_perform(struct realm_work *work);
 
-/* The same with a verdict on the body of a call: FAULT where it faulted, so that what is ordered behind the call is cancelled. DONE. Misuse:
-   PERFORMED; WRONG where a fault is said of an operation that is no call, or is cancelled; RANGE where the verdict is another number. */
+/* The same with a verdict on the body of a call: FAULT where it faulted, so that the event of the call is poisoned. DONE. Misuse: PERFORMED;
+   WRONG where a fault is said of an operation that is no call, or is cancelled; RANGE where the verdict is another number. */
 enum realm_body_verdict { REALM_FINE = 0, REALM_FAULT = 1 };
 uint32_t realm_work_finish(struct realm_work *work, uint32_t verdict);
 
@@ -204,8 +204,8 @@ uint32_t realm_run_state(struct realm_run *run, struct realm_run_lines *lines);
 
 /* Does what is left on the calling thread, and gives the report. DONE, NO_ROOM, NO_MEMORY; it may be called again, and nothing
    else but free is done with the run from then on. Misuse: WORK_OUT, also where work was freed that was not put back: such a
-   run never gives a report; CALLS_LEFT exactly where a call has not ended and waits, itself or through others, for nothing that never
-   comes, want of memory aside: a report has no body for it. */
+   run never gives a report; CALLS_LEFT where a call is left, one that has not ended and that nothing which never comes reaches: a
+   report has no body for it. That this answer comes only there is proved, that it comes each time is tested. */
 uint32_t realm_run_report(struct realm_run *run, uint8_t *out, size_t room, uint64_t *written);
 
 /* Frees a run, or work that is not to be put back: its operation is out for good. DONE; the struct is then empty. They may be freed

@@ -7,7 +7,7 @@
 #define REALM_VERSION "0.3.0"
 
 enum realm_misuse {
-    REALM_MISUSE_WRONG = 11,        /* the handle holds another kind of thing than the call asks for, as work without a body where a fault is said of one */
+    REALM_MISUSE_WRONG = 11,        /* the handle holds another kind of thing than the call asks for, or a fault is said of work without a body */
     REALM_MISUSE_EMPTY = 12,        /* the handle is empty */
     REALM_MISUSE_USED_UP = 13,      /* what the handle held is used up or freed, or no call gave this number */
     REALM_MISUSE_OTHER_RUN = 14,    /* the work is of another run, two handles are of different tables of events, or a datum is of another runtime */
