@@ -72,14 +72,14 @@ uint32_t realm_data_alloc(struct realm_tasks *tasks, size_t bytes, void **pointe
 
 /* Cuts a datum into consecutive tiles of these sizes, which are at least 1 and together its bytes; tiles are numbered from 0. Tasks
    that access different tiles don't conflict; one that accesses the whole datum accesses each tile. A datum that is not cut has
-   one tile. Tiles of before go. What faulted with some of them since the last wait cancels what accesses a byte of these; where the datum
-   is cut once more before a wait, what accesses a byte of a tile that had one. DONE, NO_MEMORY. Misuse: RANGE, also where the data of the
+   one tile. Tiles of before go. What a fault since the last wait cancels goes by bytes then: a new tile that has a byte of a tile of the
+   faulted task counts as that tile, and so at each further cut before a wait. DONE, NO_MEMORY. Misuse: RANGE, also where the data of the
    runtime would have too many tiles; NEEDED where a task of the present window was inserted with the datum: wait first; EMPTY, USED_UP and
    OTHER_RUN of the datum. */
 uint32_t realm_data_tiles(struct realm_tasks *tasks, struct realm_data data, uint32_t count, const size_t *sizes);
 
-/* Frees a datum: its memory is the program's alone, or given back. The handle is empty then, and what faulted with the datum cancels by it
-   nothing that is inserted later, also where the memory is made a datum again. DONE. Misuse: NEEDED where a task that was
+/* Frees a datum: its memory is the program's alone, or given back. The handle is empty then. A task that faulted with the datum cancels by
+   it nothing that is inserted later, also where the memory is made a datum again. DONE. Misuse: NEEDED where a task that was
    inserted with it has not ended; EMPTY, USED_UP and OTHER_RUN of the datum. */
 uint32_t realm_data_free(struct realm_tasks *tasks, struct realm_data *data);
 
@@ -113,7 +113,7 @@ typedef uint32_t (*realm_task_body)(void *argument);
    need not be, and may be null where there are none. DONE with the number of the task, from 0 in the order of insertion; NO_MEMORY, and
    then the task is not inserted.
    Tasks are kept by windows: a wait ends one, and so does an insertion once it has so many tasks as realm_tasks_window says. That
-   insertion first performs all that was inserted, as a wait does, but tells no fault. No result hangs on where windows end.
+   insertion first performs all that was inserted, as a wait does, but tells no fault. No result depends on where windows end.
    Should the library overlook tasks, an error of its own, a wait and such an insertion answer FORGOTTEN, and the window stays.
    Misuse: RANGE where there are more uses than 8, a tile is none of its datum, or a mode is none; EMPTY, USED_UP and OTHER_RUN of a
    datum; MEET where two uses of the task are of one datum, but for different tiles; NO_BODY where body is null. */
