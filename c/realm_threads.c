@@ -6,9 +6,9 @@
    but a higher turn is taken within it. The run itself is entered in the table of handles by realm_run_all, so no other call gets to
    it meanwhile.
 
-   The loop is a host as the laws of host_bodies have it: a call is taken there when its turns are held, which is before its body
-   begins, and is put back when the body has returned. No other that reduces into one of its columns is between the two, and of those
-   that are out none else conflicts with it, by the clause of the proved call that takes it.
+   The loop is a host as the laws of host_bodies have it, where no body faults that has written: a call is taken there when its turns are
+   held, which is before its body begins, and is put back when the body has returned. No other that reduces into one of its columns is
+   between the two, and of those that are out none else conflicts with it, by the clause of the proved call that takes it.
 
    Who parks: a thread that finds nothing to try while a line is out. Who wakes: a thread that takes a line and leaves something to try
    wakes one; the last one wakes all. So where something can be tried a thread that isn't parked is about to try it: who puts a line

@@ -98,7 +98,7 @@ class Work:
         return _call(numbers) if checked(LIB.realm_work_call(self._handle, numbers), NONE) == DONE else None
 
     def perform(self, faulted: bool = False) -> None:
-        """Performs the operation. Of a call whose body faulted it is said so, and what is ordered behind the call is cancelled."""
+        """Performs the operation. Of a call whose body faulted it is said so, and its event is poisoned."""
         checked(LIB.realm_work_finish(self._handle, FAULT if faulted else FINE))
 
     def put_back(self) -> None:
@@ -128,9 +128,8 @@ class Run:
         """Performs all that can be performed on 1 to 8 threads, with the calling one.
 
         A graph with calls needs `bodies`, a function for the word of each. They run side by side as far as they let other threads go on. One that
-        raises is a fault of its call: what is ordered behind it is cancelled, and the others are performed. What the first one raised is raised once no
-        body runs any more; the run stays, and its report tells which calls faulted. An interrupt from the keyboard is seen then too, and no body is begun
-        after it.
+        raises is a fault of its call: its event is poisoned, and the other operations are performed. What the first one raised is raised once no body
+        runs any more; the run stays, and its report tells which calls faulted. An interrupt from the keyboard is seen then too, and no body is begun after it.
         """
         if bodies is None:
             checked(LIB.realm_run_all(self._handle, within(threads, 0, 8)))

@@ -47,10 +47,9 @@ pub trait Bodies {
 }
 
 /// Runs an accepted graph to its end, and answers its outcome: that of the evaluation in which those
-/// calls fault whose bodies said so. The body of each call that is not cancelled is run once, behind
-/// all that the call waits for: the memory is in the end that of the evaluation in which the calls
+/// calls fault whose bodies said so. The memory is in the end that of the evaluation in which the calls
 /// do what their bodies do, from the memory as it was. Slots go from the graph's need to the most
-/// that a run has. `NoMemory` comes where memory ran out; then no body was run.
+/// that a run has. `NoMemory` comes where memory ran out; then the bodies and their memory stay.
 pub fn run_calls<B: Bodies>(
     alloc: Global,
     checked: &Checked,

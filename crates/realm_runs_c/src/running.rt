@@ -133,8 +133,8 @@ pub extern "C" fn realm_run_state(alloc: Global, run: &mut Held, lines: &mut Lin
 }
 
 /// Does on the calling thread what is left of a run of which no work is out, and puts the report into `out` with its
-/// length beside it: 0; 6 exactly where `out` is too short for it, and it is cut; 17 exactly where work is out, and 26 where a
-/// call is left of which a body would be run, and nothing is changed; 7. It may be called again.
+/// length beside it: 0; 6 exactly where `out` is too short for it, and it is cut; 17 only where work is out, and 26 only where
+/// a call is left of which a body would be run, and nothing is changed; 7. It may be called again.
 #[unsafe(no_mangle)]
 pub extern "C" fn realm_run_report(
     alloc: Global,
