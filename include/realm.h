@@ -158,10 +158,10 @@ uint32_t realm_run_issue(struct realm_run *run, uint32_t *line);
 /* Takes an issued operation. DONE with its work; NOT_YET where it waits for the operation `other`, and perhaps for more: if that
    is issued, realm_run_woken gives the line once it has ended, or before; if it is not, nothing does, so try again when it is issued;
    BUSY_LOCK, BUSY_COLUMN where the reservation or the column `other` is with another operation: try again after a
-   realm_run_put_back. A column is with one operation at a time, also where both only read it or their points are apart. One whose
-   wait is poisoned is taken, performed and put back too: it does nothing then, and only the report tells; OVER where it is not
-   issued, is out or has ended; NEVER where it never comes; NO_MEMORY, and then nothing changed. Misuse: RANGE where the graph has
-   no such operation; FILLED where out holds something; REPORTED. */
+   realm_run_put_back. A column is with one operation at a time, also where their points are apart, but those that only read it may
+   have it together. One whose wait is poisoned is taken, performed and put back too: it does nothing then, and only the report
+   tells; OVER where it is not issued, is out or has ended; NEVER where it never comes; NO_MEMORY, and then nothing changed. Misuse:
+   RANGE where the graph has no such operation; FILLED where out holds something; REPORTED. */
 uint32_t realm_run_take(struct realm_run *run, uint32_t line, struct realm_work *out, uint32_t *other);
 
 /* The call of an operation that was taken. DONE; NONE where it is no call, and where its wait is poisoned, so that its body is not
@@ -209,7 +209,8 @@ uint32_t realm_run_state(struct realm_run *run, struct realm_run_lines *lines);
 uint32_t realm_run_report(struct realm_run *run, uint8_t *out, size_t room, uint64_t *written);
 
 /* Frees a run, or work that is not to be put back: its operation is out for good. DONE; the struct is then empty. They may be freed
-   in any order, and the last of them frees the graph. */
+   in any order, and the last of them frees the graph. A column that the work only reads is then not given back to memory; nor is it
+   where the run is freed first. */
 uint32_t realm_run_free(struct realm_run *run);
 uint32_t realm_work_free(struct realm_work *work);
 

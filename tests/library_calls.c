@@ -70,6 +70,35 @@ static void a_line_of_a_run(void) {
     realm_run_free(&run);
 }
 
+/* Two operations that only read a column have it together; one that changes another part of it has it once both are back. */
+static void readers_of_a_column(void) {
+    static const char text[] = "realm 1\nspace s 0..0\nspace t 1..1\nspace w 0..1\ninst a w x,y,z\n"
+                               "f = copy a.x a.y s\ng = copy a.x a.z s\nh = fill a.x t 7\nend\n";
+    static const char report[] = "realm-report 1\nop f done triggered\nop g done triggered\nop h done triggered\n"
+                                 "cells a.x 0..1 0 7\ncells a.y 0..1 0 0\ncells a.z 0..1 0 0\ndone\n";
+    struct realm_run run = {0};
+    struct realm_work works[3] = {{0}};
+    struct realm_verdict verdict;
+    uint8_t out[256];
+    uint64_t written;
+    uint32_t line, other = 9;
+    WANTS(realm_run_new(TEXT(text), 0, &run, &verdict), REALM_DONE);
+    for (uint32_t i = 0; i < 3; i++) WANTS(realm_run_issue(&run, &line), REALM_RUN_DONE);
+    for (uint32_t i = 0; i < 2; i++) WANTS(realm_run_take(&run, i, &works[i], &other), REALM_RUN_DONE);
+    for (uint32_t i = 0; i < 2; i++) {
+        WANTS(realm_run_take(&run, 2, &works[2], &other), REALM_RUN_BUSY_COLUMN);
+        WANTS(other, 0);
+        WANTS(realm_work_perform(&works[i]), REALM_RUN_DONE);
+        WANTS(realm_run_put_back(&run, &works[i]), REALM_RUN_DONE);
+    }
+    WANTS(realm_run_take(&run, 2, &works[2], &other), REALM_RUN_DONE);
+    WANTS(realm_work_perform(&works[2]), REALM_RUN_DONE);
+    WANTS(realm_run_put_back(&run, &works[2]), REALM_RUN_DONE);
+    WANTS(realm_run_report(&run, out, sizeof out, &written), REALM_RUN_DONE);
+    WANTS_TEXT(report);
+    WANTS(realm_run_free(&run), REALM_RUN_DONE);
+}
+
 static void the_report_of_a_run(void) {
     struct realm_run run = {0};
     struct realm_verdict verdict;
@@ -270,6 +299,7 @@ int main(void) {
     verdicts_of_the_plainest_graph();
     texts_of_small_graphs();
     a_line_of_a_run();
+    readers_of_a_column();
     the_report_of_a_run();
     a_run_by_threads();
     waits_for_good();

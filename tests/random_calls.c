@@ -1,9 +1,10 @@
 /* Random sequences of calls, right and wrong, on the handles of runs, works and events, each by 1 to 8 threads.
-   Usage: random_calls COUNT [SEED [LEAST]]
+   Usage: random_calls COUNT [SEED [LEAST [keep]]]
 
    Nothing may fault, each report that is given is that of the evaluation, each event answers as it was ended, and what is freed twice
    says so. In the end it is told how many sequences reached a report, and how often each misuse was answered; the status is 1
-   where fewer than half reached one, or a misuse came fewer than LEAST times (100). */
+   where fewer than half reached one, or a misuse came fewer than LEAST times (100). With `keep` no handle of a run or of work is freed
+   before the end: a column that work reads is not given back where that work is freed, or its run while it is out. */
 #include "realm.h"
 #include "realm_events.h"
 #include <pthread.h>
@@ -30,7 +31,7 @@ static uint64_t text_lengths[RUNS], report_lengths[RUNS];
 static uint32_t line_counts[RUNS];
 static _Atomic long answers[STATUSES];
 static _Atomic long turn, reached;
-static int thread_count, steps;
+static int thread_count, steps, may_abandon;
 
 struct thread { uint64_t draw; int number; pthread_t id; };
 
@@ -155,8 +156,8 @@ static void on_runs(struct thread *t) {
     case 14: state_of(t, at); break;
     case 15: report_run(t, draw(t, 4) ? 0 : at); break;
     case 16: note(realm_run_all(CHOSEN(realm_run, &runs[at]), draw(t, 10))); break;
-    case 17: if (!draw(t, 12)) note(realm_work_free(CHOSEN(realm_work, &works[work]))); break;
-    case 18: if (!draw(t, 12)) note(realm_run_free(CHOSEN(realm_run, &runs[at]))); break;
+    case 17: if (!draw(t, 12) && may_abandon) note(realm_work_free(CHOSEN(realm_work, &works[work]))); break;
+    case 18: if (!draw(t, 12) && may_abandon) note(realm_run_free(CHOSEN(realm_run, &runs[at]))); break;
     default: do_line(t, at);
     }
 }
@@ -362,6 +363,7 @@ static int tell(long count, long least) {
 int main(int argc, char **argv) {
     long count = argc > 1 ? atol(argv[1]) : 1000, least = argc > 3 ? atol(argv[3]) : 100;
     uint64_t seed = argc > 2 ? strtoull(argv[2], 0, 10) : 1;
+    may_abandon = argc < 5;
     signal(SIGALRM, late);
     for (turn = 0; turn < count; turn++) {
         alarm(SECONDS_WITHOUT_END);

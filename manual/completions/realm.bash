@@ -21,7 +21,7 @@ _realm() {
     run) options="--workers --engine --hints --slots --trace -o --help" ;;
     eval) options="--trace -o --help" ;;
     session) options="--workers --engine --hints --slots -o --help" ;;
-    timeline) options="--workers -o --help" ;;
+    timeline) options="--workers --columns -o --help" ;;
     audit) options="-o --help" ;;
     make) options="--seed --size --text --workers --engine --hints --slots -o --help" ;;
     upgrade) options="--to -o --help" ;;

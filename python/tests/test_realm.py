@@ -135,7 +135,9 @@ class Runs(unittest.TestCase):
             self.assertEqual(run.report(), "realm-report 1\nop f faulted poisoned\nop g cancelled poisoned\ndone\n")
 
     def test_an_interrupt_while_bodies_run(self):
-        text = "realm 3\n" + "".join(f"k{k} = call busy\n" for k in range(500)) + "end\n"
+        # (three seconds of work and more: on a busy machine the main thread may get no turn for some hundreds of milliseconds)
+        count = 5000
+        text = "realm 3\n" + "".join(f"k{k} = call busy\n" for k in range(count)) + "end\n"
         for threads in (1, 3):
             told = []
 
@@ -153,7 +155,7 @@ class Runs(unittest.TestCase):
             threading.Thread(target=interrupt).start()
             with realm.Run(text) as run, self.assertRaises(KeyboardInterrupt):
                 run.perform_all(threads, {"busy": busy})
-            self.assertLess(len(told), 500)
+            self.assertLess(len(told), count)
 
     def test_generated_graphs(self):
         for seed in range(20):
@@ -327,8 +329,12 @@ class Tasks(unittest.TestCase):
             for most in (1, 2):
                 ran = []
                 tasks.window(most)
-                tasks.insert(lambda: (time.sleep(0.2), os.kill(os.getpid(), signal.SIGINT), time.sleep(0.2)), writes=[of_cells])
+                guarded = threading.Event()
+                tasks.insert(
+                    lambda guarded=guarded: (guarded.wait(), time.sleep(0.2), os.kill(os.getpid(), signal.SIGINT), time.sleep(0.2)), writes=[of_cells]
+                )
                 with self.assertRaises(KeyboardInterrupt):
+                    guarded.set()
                     tasks.insert(lambda: time.sleep(0.1), writes=[of_cells])
                     tasks.insert(ran.append, 1, writes=[of_cells])
                     tasks.wait()

@@ -1,6 +1,6 @@
 -- What the steps of a core do to the stages of lines.
 use Rattle.std.proofs.Common.{◌≡◌, ℕ, ◌+◌, ◌<◌, Bool, true, false, ◌&&◌, ◌⊎◌, inl, inr, List, length, refl, sym, ◌∙◌, ap, subst, arith}
-use Rattle.std.specs.Prelude.{◌≢◌, ◌↔◌, slice_set}
+use Rattle.std.specs.Prelude.{◌≢◌, ◌↔◌, Option, slice_set}
 use Rattle.std.proofs.lemmas.Bool.{true≢false, cases_eq, cases_Bool}
 use Rattle.std.proofs.lemmas.List.{get_or-set_same, get_or-set_other, set-set}
 use Rattle.basics.proofs.ListFacts.{map_contains, got_contains}
@@ -16,11 +16,13 @@ use Rattle.run_state.specs.Quiet.{kept_cancels}
 use Rattle.run_state.proofs.Public.{stage_there}
 use Rattle.run_state.specs.Moves.{claim}
 use Rattle.run_state.specs.Verdicts.{effect_by}
-use Rattle.run_state.specs.WholeLine.{column_list, take_whole}
+use Rattle.run_state.specs.WholeLine.{column_list}
+use Rattle.run_state.specs.Sharing.{take_sharing}
+use Rattle.lent_columns.specs.Lendings.{Lending}
 use Rattle.run_state.specs.Laws.{CancelledByKeptEnds}
 use Rattle.run_core.specs.Core.{CoreValue, IsCore, MayFault, Tells, kept_faults, has_faulted}
 use Rattle.run_core.specs.Works.{WorkValue, FinishedValue}
-use Rattle.run_core.specs.Steps.{IsHeldBy, StandsBy, with_run, Takes, Attempts, with_end}
+use Rattle.run_core.specs.Steps.{IsHeldBy, StandsBy, with_run, with_lendings, Takes, Attempts, with_end}
 use Rattle.run_core.specs.Finishing.{IsStill, IsFreeSoFar, CanBeTaken}
 use Rattle.run_core.specs.declared.answers.Attempt.{Attempt}
 use Rattle.run_core.specs.declared.answers.Attempt.TheVariants as attempts
@@ -99,12 +101,12 @@ pub record GoesOut (old mid : CoreValue) (i : ℕ) : Type 0 where
 
 pub goes_out : (old mid : CoreValue) (w : WorkValue) → Takes old mid w → GoesOut old mid w.line
 goes_out old mid w takes = elim (cases_Bool (kept_cancels old.graph old.run.stages w.line)) [
-  | inl cancelled ↦ by_run (claim old.run w.line) (takes.claimed cancelled) refl refl
-  | inr runs ↦ by_run (take_whole old.graph old.run w.line) (takes.taken runs).2 refl refl
+  | inl cancelled ↦ by_run (claim old.run w.line) old.lendings (takes.claimed cancelled) refl refl
+  | inr runs ↦ (let t = takes.taken runs in by_run (take_sharing old.graph old.run w.line) t.2 t.4 refl refl)
 ]
   where
-    by_run : (run : Run) → mid ≡ with_run old run → run.stages ≡ slice_set old.run.stages w.line Out → run.clock ≡ old.run.clock → GoesOut old mid w.line
-    by_run run is shape timed = record {
+    by_run : (run : Run) (lendings : List (Option Lending)) → mid ≡ with_lendings (with_run old run) lendings → run.stages ≡ slice_set old.run.stages w.line Out → run.clock ≡ old.run.clock → GoesOut old mid w.line
+    by_run run lendings is shape timed = record {
       graph = ap (λ (c : CoreValue). c.graph) is;
       hosted = ap (λ (c : CoreValue). c.hosted) is;
       stages = ap (λ (c : CoreValue). c.run.stages) is ∙ shape;

@@ -215,7 +215,7 @@ pub all_quiet : (c : CoreValue) → IsCore c → NothingOut c → ((i : ℕ) →
 all_quiet c core nothing none all = record {
   first_issued = λ i l. (core.events.each_issued i).1 (omega (arith, l, all));
   none_out = nothing;
-  none_ending = core.at_rest.none_ending;
+  none_ending = core.at_rest.lines.none_ending;
   none_taken = none;
 }
 

@@ -196,7 +196,7 @@ fn meets_spaces(alloc: Global) -> Result<(), Fail> {
 fn zeroes_column(alloc: Global) -> Result<(), Fail> {
     let space = Space::new(alloc, &[(0, 3), (8, 11)])?;
     match Column::zeroed(alloc, &space) {
-        Ok(column) => after("Column::zeroed", false, column.get(11) == Some(0)),
+        Ok(column) => after("Column::zeroed", false, column.view().get(11) == Some(0)),
         Err(NoMemory) => {
             let again = Column::zeroed(alloc, &space).is_ok();
             after("Column::zeroed", true, again)

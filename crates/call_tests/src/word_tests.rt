@@ -17,6 +17,7 @@ const RUN: Request = Request {
     trace: false,
     text: false,
     to_three: false,
+    columns: false,
 };
 
 fn words(alloc: Global, line: &str) -> Result<Vec<String>, Fail> {
@@ -120,6 +121,14 @@ fn takes_options(rt: HostRuntime) -> Result<(), Fail> {
                 ..RUN
             },
         ),
+        (
+            "realm timeline --columns",
+            Request {
+                action: Action::Timeline,
+                columns: true,
+                ..RUN
+            },
+        ),
     ] {
         assert_eq!(rt; request(rt.alloc(), line)?, Ok(wanted));
     }
@@ -171,7 +180,7 @@ const REFUSALS: [(&str, &str); 15] = [
     ),
     (
         "realm run --fast",
-        "unexpected argument '--fast' found: an action with --workers, --slots, --engine, --hints, --seed, --size, --trace, --text, --to",
+        "unexpected argument '--fast' found: an action with --workers, --slots, --engine, --hints, --seed, --size, --trace, --text, --to, --columns",
     ),
 ];
 

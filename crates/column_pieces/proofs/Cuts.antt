@@ -1,5 +1,5 @@
 -- Pieces cut their graph.
-use Rattle.std.proofs.Common.{◌≡◌, ℕ, zero, suc, ◌+◌, ◌-◌, ◌<◌, ◌≤◌, Bool, true, false, cond, inl, inr, List, [], ◌∷◌, ◌++◌, length, get_or, refl, sym, ◌∙◌, ap, subst, arith, append-nil}
+use Rattle.std.proofs.Common.{◌≡◌, ℕ, zero, suc, ◌+◌, ◌-◌, ◌<◌, ◌≤◌, Bool, true, false, cond, inl, inr, List, [], ◌∷◌, ◌++◌, length, map, get_or, refl, sym, ◌∙◌, ap, subst, arith, append-nil}
 use Rattle.std.specs.Prelude.{Option, Some, None, Contains, option_map, slice_get, filter, filter_map, flat_map, position, find, ◌==◌}
 use Rattle.std.specs.Option.{option_map_or}
 use Rattle.std.specs.List.{position_from, cons_option}
@@ -17,13 +17,13 @@ use Rattle.graph_terms.specs.declared.decl.Decl.TheVariants.{Space, Inst, Data, 
 use Rattle.graph_terms.specs.declared.decl.ColumnInfo.{ColumnInfo}
 use Rattle.graph_terms.specs.declared.verb.Access.{Access}
 use Rattle.graph_terms.specs.Fits.{IsGraph}
-use Rattle.graph_terms.specs.Graph.{GraphValue, space_of, barrier_of, columns_of, named_spaces, barriers, columns, column_space, space_at}
+use Rattle.graph_terms.specs.Graph.{GraphValue, space_of, barrier_of, columns_of, barriers, columns, column_space, space_at}
 use Rattle.graph_terms.specs.Access.{accesses}
 use Rattle.graph_meaning.proofs.Public.{columns_differ}
 use Rattle.column_pieces.specs.Cut.{IsCut}
 use Rattle.column_pieces.specs.Pieces.{has_cell, piece_at, column_at, cut_of, piece_decls, is_kept, graph_of_pieces, ArePieces}
 use Rattle.column_pieces.specs.declared.pieces.Piece.{Piece}
-use Rattle.column_pieces.specs.Laws.{PiecesCut}
+use Rattle.column_pieces.specs.Laws.{PiecesCut, PiecesKeepSpaces, ColumnsArePieces}
 
 -- DECLARATIONS
 kept_none : {X : Type 0} (f : Decl → Option X) → ((n : List ℕ) (s : ℕ) (fs : List (List ℕ)) → f (Inst n s fs) ≡ None) → (ds : List Decl) → filter_map f (filter is_kept ds) ≡ filter_map f ds
@@ -58,6 +58,16 @@ piece_columns ds xs = flat_map-append columns_of (filter is_kept ds) (piece_decl
 columns_number : (k : ℕ) (xs : List Piece) → length (flat_map columns_of (piece_decls k xs)) ≡ length xs
 columns_number k [] = refl
 columns_number k (x ∷ xs) = ap suc (columns_number (k + 1) xs)
+
+columns_over : (k : ℕ) (xs : List Piece) → map (λ (y : ColumnInfo). y.space) (flat_map columns_of (piece_decls k xs)) ≡ map (λ (x : Piece). x.space) xs
+columns_over k [] = refl
+columns_over k (x ∷ xs) = ap (λ ys. x.space ∷ ys) (columns_over (k + 1) xs)
+
+pub pieces_keep_spaces : PiecesKeepSpaces
+pieces_keep_spaces g pieces = same_items space_of (λ n s fs. refl) g.decls pieces
+
+pub columns_are_pieces : ColumnsArePieces
+columns_are_pieces g pieces = ap (map (λ (y : ColumnInfo). y.space)) (piece_columns g.decls pieces) ∙ columns_over 0 pieces
 
 column_got : (k : ℕ) (xs : List Piece) (j : ℕ) → option_map (λ (y : ColumnInfo). y.space) (slice_get (flat_map columns_of (piece_decls k xs)) j) ≡ option_map (λ (x : Piece). x.space) (slice_get xs j)
 column_got k [] j = refl
@@ -114,14 +124,11 @@ module _ (g : GraphValue) (pieces : List Piece) (fits : IsGraph g) (are : ArePie
   abbrev h : GraphValue
   h = graph_of_pieces g pieces
 
-  same_spaces : named_spaces h ≡ named_spaces g
-  same_spaces = same_items space_of (λ n s fs. refl) g.decls pieces
-
   same_barriers : barriers h ≡ barriers g
   same_barriers = same_items barrier_of (λ n s fs. refl) g.decls pieces
 
   space_same : (s : ℕ) → space_at h s ≡ space_at g s
-  space_same s = ap (λ (xs : List (List ℕ × List (ℕ × ℕ))). option_map_or (λ x. x.1) (slice_get xs s) []) same_spaces
+  space_same s = ap (λ (xs : List (List ℕ × List (ℕ × ℕ))). option_map_or (λ x. x.1) (slice_get xs s) []) (pieces_keep_spaces g pieces)
 
   -- the piece that has a cell, if any
   piece_by : (c p : ℕ) (k : ℕ) → position (has_cell g c p) pieces ≡ Some k → (x : Piece) × (slice_get pieces k ≡ Some x) × (x.column ≡ c) × (has_point (space_at g x.space) p ≡ true)

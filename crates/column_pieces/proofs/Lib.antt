@@ -7,3 +7,5 @@ pub mod Acceptance
 pub mod Cuts
 pub mod PiecesTable
 pub mod Components
+pub mod Within
+pub mod Public

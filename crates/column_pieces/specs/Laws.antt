@@ -1,8 +1,9 @@
 -- What holds of every graph whose columns are cut.
-use Rattle.std.specs.Prelude.{◌≡◌, ℕ, true, ◌↔◌, List, Contains, IsTrue}
-use Rattle.index_spaces.specs.Space.{has_point}
+use Rattle.std.specs.Prelude.{◌≡◌, ℕ, ◌<◌, true, ◌↔◌, List, length, map, Contains, IsTrue}
+use Rattle.index_spaces.specs.Space.{has_point, IsWithin}
+use Rattle.graph_terms.specs.declared.decl.ColumnInfo.{ColumnInfo}
 use Rattle.graph_terms.specs.Format.{has_since}
-use Rattle.graph_terms.specs.Graph.{GraphValue, space_at}
+use Rattle.graph_terms.specs.Graph.{GraphValue, named_spaces, columns, column_space, space_at}
 use Rattle.graph_terms.specs.Fits.{IsGraph}
 use Rattle.graph_meaning.specs.Rules.{Accepted}
 use Rattle.graph_meaning.specs.Need.{IsNeed}
@@ -28,6 +29,18 @@ PiecesAreAccepted = (g h : GraphValue) (cut : Cut) → IsGraph h → has_since g
 -- pieces cut their graph
 abbrev pub PiecesCut : Type 0
 PiecesCut = (g : GraphValue) (pieces : List Piece) → IsGraph g → ArePieces g pieces → IsCut g (graph_of_pieces g pieces) (cut_of g pieces)
+
+-- a piece is of a column of the graph, and has none but points of it
+abbrev pub PiecesLieWithin : Type 0
+PiecesLieWithin = (g : GraphValue) (pieces : List Piece) (x : Piece) → IsGraph g → ArePieces g pieces → Contains pieces x →
+    (x.column < length (columns g)) × IsWithin (space_at g x.space) (column_space g x.column)
+
+-- the graph of pieces has the spaces of the graph, and a column for each piece, over its space
+abbrev pub PiecesKeepSpaces : Type 0
+PiecesKeepSpaces = (g : GraphValue) (pieces : List Piece) → named_spaces (graph_of_pieces g pieces) ≡ named_spaces g
+
+abbrev pub ColumnsArePieces : Type 0
+ColumnsArePieces = (g : GraphValue) (pieces : List Piece) → map (λ (y : ColumnInfo). y.space) (columns (graph_of_pieces g pieces)) ≡ map (λ (x : Piece). x.space) pieces
 
 -- a piece is a connected component of what the accesses of its column name, unless that column stays whole: from a point of it, just its points are linked
 abbrev pub PiecesAreComponents : Type 0

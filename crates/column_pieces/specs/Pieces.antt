@@ -1,5 +1,5 @@
 -- Pieces: each is of a column, over a declared space. The graph of pieces has one instance of one field for each.
-use Rattle.std.specs.Prelude.{◌≡◌, ℕ, ◌+◌, ◌-◌, ◌%◌, ◌/◌, ◌==◌, ◌⊎◌, Bool, not, ◌&&◌, List, [], ◌∷◌, ◌++◌, length, filter, position, find, Contains, slice_get, IsTrue, codes}
+use Rattle.std.specs.Prelude.{◌≡◌, ℕ, ◌+◌, ◌-◌, ◌%◌, ◌/◌, ◌<◌, ◌==◌, ◌⊎◌, Bool, not, ◌&&◌, List, [], ◌∷◌, ◌++◌, length, filter, position, find, Contains, slice_get, Some, IsTrue, codes}
 use Rattle.std.specs.Option.{option_map_or}
 use Rattle.index_spaces.specs.Space.{has_point, point_at, IsWithin, Meet}
 use Rattle.graph_terms.specs.declared.decl.Decl.{Decl}
@@ -11,6 +11,7 @@ use Rattle.graph_terms.specs.Fits.{is_inst}
 use Rattle.graph_terms.specs.Access.{accesses}
 use Rattle.column_pieces.specs.Cut.{Cut, lines_on}
 use Rattle.column_pieces.specs.declared.pieces.Piece.{Piece}
+use Rattle.column_pieces.specs.declared.pieces.TheConstants.{MAX_COLUMN_PIECES}
 
 -- whether a piece has the cell of a column at a point
 abbrev pub has_cell : GraphValue → ℕ → ℕ → Piece → Bool
@@ -74,11 +75,18 @@ pub record IsCrossed (g : GraphValue) (c : ℕ) : Type 0 where
   pub not_within : IsWithin (space_at g one) (space_at g other) → ⊥
   pub not_around : IsWithin (space_at g other) (space_at g one) → ⊥
 
+-- a column is accessed over more spaces than it is cut into, no two of which have a point in common
+pub record HasManyApart (g : GraphValue) (c : ℕ) : Type 0 where
+  pub spaces : List ℕ
+  pub accessed : (s : ℕ) → Contains spaces s → IsAccessed g c s
+  pub apart : (j k s t : ℕ) → slice_get spaces j ≡ Some s → slice_get spaces k ≡ Some t → Meet (space_at g s) (space_at g t) → j ≡ k
+  pub many : MAX_COLUMN_PIECES < length spaces
+
 -- a column stays whole: its piece has all of its points, and no others
 pub record IsWhole (g : GraphValue) (x : Piece) : Type 0 where
   pub all_points : IsWithin (column_space g x.column) (space_at g x.space)
   pub no_others : IsWithin (space_at g x.space) (column_space g x.column)
-  pub crossed : IsCrossed g x.column
+  pub cause : IsCrossed g x.column ⊎ HasManyApart g x.column
 
 -- two points of a column are linked where an access names both, or where points between them are so
 pub data Linked (g : GraphValue) (c : ℕ) : ℕ → ℕ → Type 0 where
@@ -86,7 +94,7 @@ pub data Linked (g : GraphValue) (c : ℕ) : ℕ → ℕ → Type 0 where
   more : {p q r : ℕ} → Linked g c p q → Linked g c q r → Linked g c p r
 
 -- These are the pieces of a graph: each access lies within one piece of its column, two pieces of one column have no point in common, and
--- each piece is over the space of an access, unless its column is accessed over spaces that cross: that one stays whole.
+-- each piece is over the space of an access, unless its column is accessed over spaces that cross, or over too many that lie apart: that one stays whole.
 pub record ArePieces (g : GraphValue) (pieces : List Piece) : Type 0 where
   pub covers : (i : ℕ) (a : Access) → Contains (accesses g i) a → (x : Piece) × Contains pieces x × (x.column ≡ a.column) × IsWithin (space_at g a.space) (space_at g x.space)
   pub apart : (x y : Piece) (c p : ℕ) → Contains pieces x → Contains pieces y → IsTrue (has_cell g c p x) → IsTrue (has_cell g c p y) → x ≡ y

@@ -26,9 +26,9 @@ flag_rule name = record (new_rule name) { long = Some name; action = Some SetTru
 abbrev pub bare_command : App
 bare_command = record { top = record (new_app (codes "realm")).top { disable_help_flag = Bool.true; disable_version_flag = Bool.true }; subs = [] }
 
--- the simple command: an action, seven options with one value each, and two flags
+-- the simple command: an action, seven options with one value each, and three flags
 abbrev pub realm_command : App
-realm_command = with_rule (with_rule (with_rule (with_rule (with_rule (with_rule (with_rule (with_rule (with_rule (with_rule bare_command
+realm_command = with_rule (with_rule (with_rule (with_rule (with_rule (with_rule (with_rule (with_rule (with_rule (with_rule (with_rule bare_command
     (record (new_rule (codes "ACTION")) { required = Bool.true }))
     (option_rule (codes "workers")))
     (option_rule (codes "slots")))
@@ -38,7 +38,8 @@ realm_command = with_rule (with_rule (with_rule (with_rule (with_rule (with_rule
     (option_rule (codes "size")))
     (flag_rule (codes "trace")))
     (flag_rule (codes "text")))
-    (option_rule (codes "to"))
+    (option_rule (codes "to")))
+    (flag_rule (codes "columns"))
 
 -- the action that a word names
 abbrev pub action_by_word : Text → Option Action
@@ -100,6 +101,7 @@ request_in rows =
       trace = is_set (first_of (codes "trace") rows);
       text = is_set (first_of (codes "text") rows);
       «to_three» = to_three;
+      columns = is_set (first_of (codes "columns") rows);
     })
     (value_or Bool.false three_by_word (first_of (codes "to") rows)))
     (value_or 100 (number_between 1 MAX_SIZE) (first_of (codes "size") rows)))

@@ -55,7 +55,7 @@ fn fault_of(error: &Error) -> WordsFault
     }
 }
 
-/// The command: an action, seven options with a value each, and two flags.
+/// The command: an action, seven options with a value each, and three flags.
 fn command<'a>(alloc: Global) -> Result<Command<'a>, AllocError>
     ensures { IfOk result (λ c. app_of c ≡ realm_command) }
 {
@@ -72,7 +72,8 @@ fn command<'a>(alloc: Global) -> Result<Command<'a>, AllocError>
         .arg(option(alloc, "size"))?
         .arg(flag(alloc, "trace"))?
         .arg(flag(alloc, "text"))?
-        .arg(option(alloc, "to"))
+        .arg(option(alloc, "to"))?
+        .arg(flag(alloc, "columns"))
 }
 
 /// An option with one value.

@@ -157,5 +157,6 @@ pub(crate) fn request_in(matches: &ArgMatches) -> Option<Request>
         trace: is_set(matches, "trace"),
         text: is_set(matches, "text"),
         to_three: to_three(matches)?,
+        columns: is_set(matches, "columns"),
     })
 }

@@ -117,7 +117,7 @@ const ARGUMENTS: [Argument; 8] = [
 
 /// What may stand on a command line.
 const ALL_WORDS: &str =
-    "an action with --workers, --slots, --engine, --hints, --seed, --size, --trace, --text, --to";
+    "an action with --workers, --slots, --engine, --hints, --seed, --size, --trace, --text, --to, --columns";
 
 /// Which word of a command line is refused, and what may stand there, as `--workers 9: 0 to 8`. None exactly
 /// where the words ask for something.

@@ -75,4 +75,6 @@ pub struct Request {
     pub text: bool,
     /// Whether an upgrade writes format 3 of any format.
     pub to_three: bool,
+    /// Whether a timeline plans a line that changes a piece of a column beside no other that uses it.
+    pub columns: bool,
 }

@@ -1,9 +1,9 @@
 -- The accesses of a line, one after the other.
-use Rattle.std.proofs.Common.{◌≡◌, ℕ, ◌+◌, ◌<◌, ◌≤◌, true, false, inl, inr, List, [], length, refl, sym, ◌∙◌, ap, subst, arith, zero, suc, ◌∷◌}
-use Rattle.std.specs.Prelude.{Some, None, Contains, ◌↔◌, IsTrue, map, option_map, slice_get}
+use Rattle.std.proofs.Common.{◌≡◌, ℕ, ◌+◌, ◌<◌, ◌≤◌, inl, inr, List, [], length, sym, ◌∙◌, ap, subst, arith, zero, suc, ◌∷◌}
+use Rattle.std.specs.Prelude.{Some, None, Contains, map, option_map, slice_get}
 use Rattle.std.specs.Option.{option_map_or}
 use Rattle.std.specs.List.{slice_index_or}
-use Rattle.std.proofs.lemmas.Bool.{true≢false, cases_lt}
+use Rattle.std.proofs.lemmas.Bool.{cases_lt}
 use Rattle.std.proofs.lemmas.Option.{none-some, same_Some, slice_get_within, get_or_from_slice_get, slice_get-get_or}
 use Rattle.std.proofs.lemmas.List.Elements.{Contains-append_cases}
 use Rattle.graph_terms.specs.declared.verb.Access.{Access}

@@ -15,10 +15,11 @@ use Rattle.basics.proofs.ListFacts.{got_in}
 use Rattle.basics.proofs.ListParts.{got_end, got_cases}
 
 -- no access has a number
-pub classes_none : (g : GraphValue) (lines : List ℕ) (keys : List Access) (classes sites begins : List ℕ) → keys ≡ [] → classes ≡ [] → sites ≡ [] → begins ≡ 0 ∷ [] → AreClassesTo g lines keys classes sites begins 0 0
-classes_none g lines keys classes sites begins no_keys no_classes no_sites zero' = record {
+pub classes_none : (g : GraphValue) (limit : ℕ) (lines : List ℕ) (keys : List Access) (classes sites begins : List ℕ) → keys ≡ [] → classes ≡ [] → sites ≡ [] → begins ≡ 0 ∷ [] → AreClassesTo g limit lines keys classes sites begins 0 0
+classes_none g limit lines keys classes sites begins no_keys no_classes no_sites zero' = record {
   numbered = record { size = none ∙ sym no_class; ascending = λ r s le low. absurd (omega (arith, none)) };
   within = λ r low. absurd (omega (arith, none));
+  limited = λ r low. absurd (omega (arith, none));
   low = λ r low. absurd (omega (arith, none));
   begin_count = ap length zero';
   begin = λ q le. (
@@ -26,7 +27,7 @@ classes_none g lines keys classes sites begins no_keys no_classes no_sites zero'
       let is : slice_index begins q ≡ 0 = ap (λ xs. slice_index xs q) zero' ∙ ap (slice_index (0 ∷ [])) at in
       record { within = omega arith; before = λ r low. absurd (omega arith); behind = λ r up low. absurd (omega (arith, none)) });
   own = λ r c a class key. absurd (none-some c (sym (ap (λ xs. slice_get xs r) no_classes) ∙ class));
-  each = λ q m a in' before e. elim before [ inl low ↦ absurd (omega arith) | inr at ↦ (let low : m < 0 = at.1 in absurd (omega arith)) ];
+  each = λ q m a in' below before e. elim before [ inl low ↦ absurd (omega arith) | inr at ↦ (let low : m < 0 = at.1 in absurd (omega arith)) ];
   known = λ r c class. absurd (none-some c (sym (ap (λ xs. slice_get xs r) no_classes) ∙ class));
   few = (let no_key : length keys ≡ 0 = ap length no_keys in omega arith);
   count = omega (arith, no_class);
@@ -39,9 +40,9 @@ classes_none g lines keys classes sites begins no_keys no_classes no_sites zero'
     no_class = ap length no_classes
 
 -- one more access
-module _ (g : GraphValue) (lines : List ℕ) (keys more : List Access) (classes sites begins after places : List ℕ) (p k c : ℕ) (a : Access) (here : p < length lines) (access : slice_get (all_accesses g (slice_index lines p)) k ≡ Some a)
+module _ (g : GraphValue) (limit : ℕ) (lines : List ℕ) (keys more : List Access) (classes sites begins after places : List ℕ) (p k c : ℕ) (a : Access) (here : p < length lines) (under : slice_index lines p < limit) (access : slice_get (all_accesses g (slice_index lines p)) k ≡ Some a)
     (kept : (d : ℕ) (b : Access) → slice_get keys d ≡ Some b → slice_get more d ≡ Some b) (class : slice_get more c ≡ Some a) (grows : length more ≤ length keys + 1)
-    (pushed : after ≡ classes ++ c ∷ []) (placed : places ≡ sites ++ p ∷ []) (t : AreClassesTo g lines keys classes sites begins p k) where
+    (pushed : after ≡ classes ++ c ∷ []) (placed : places ≡ sites ++ p ∷ []) (t : AreClassesTo g limit lines keys classes sites begins p k) where
   same_size : length sites ≡ length classes
   same_size = t.numbered.size
 
@@ -98,11 +99,11 @@ module _ (g : GraphValue) (lines : List ℕ) (keys more : List Access) (classes 
     place_is = old_place h.number (numbered_low h.number h.class h.class_is) ∙ h.place_is;
   }
 
-  each : (q m : ℕ) (b : Access) → q < length lines → (q < p) ⊎ ((q ≡ p) × (m < k + 1)) → slice_get (all_accesses g (slice_index lines q)) m ≡ Some b → HasNumber more after places q b
-  each q m b in' before e = elim before [
-    | inl l ↦ number_kept q b (t.each q m b in' (inl l) e)
+  each : (q m : ℕ) (b : Access) → q < length lines → slice_index lines q < limit → (q < p) ⊎ ((q ≡ p) × (m < k + 1)) → slice_get (all_accesses g (slice_index lines q)) m ≡ Some b → HasNumber more after places q b
+  each q m b in' below before e = elim before [
+    | inl l ↦ number_kept q b (t.each q m b in' below (inl l) e)
     | inr at ↦ elim (cases_lt m k) [
-      | inl l ↦ number_kept q b (t.each q m b in' (inr (at.0, l)) e)
+      | inl l ↦ number_kept q b (t.each q m b in' below (inr (at.0, l)) e)
       | inr up ↦ (
           let low : m < k + 1 = at.1 in
           let last : m ≡ k = omega arith in
@@ -145,10 +146,11 @@ module _ (g : GraphValue) (lines : List ℕ) (keys more : List Access) (classes 
     | inr last ↦ subst P (sym (new_place r (omega (arith, wider)))) new
   ]
 
-  pub classes_more : AreClassesTo g lines more after places begins p (k + 1)
+  pub classes_more : AreClassesTo g limit lines more after places begins p (k + 1)
   classes_more = record {
     numbered = record { size = omega (arith, wider, longer, same_size); ascending = ascending };
     within = place_cases (λ x. x < length lines) t.within here;
+    limited = place_cases (λ x. slice_index lines x < limit) t.limited under;
     low = place_cases (λ x. x ≤ p) t.low (omega arith);
     begin_count = t.begin_count;
     begin = begin;
@@ -159,17 +161,18 @@ module _ (g : GraphValue) (lines : List ℕ) (keys more : List Access) (classes 
     count = (let f : length classes ≤ 8 * p + k = t.count in omega (arith, longer));
   }
 
-module _ (g : GraphValue) (lines : List ℕ) (keys : List Access) (classes sites begins : List ℕ) where
+module _ (g : GraphValue) (limit : ℕ) (lines : List ℕ) (keys : List Access) (classes sites begins : List ℕ) where
   -- a line has no more accesses
-  pub classes_filled : (p k : ℕ) → k ≤ 8 → length (all_accesses g (slice_index lines p)) ≤ k → AreClassesTo g lines keys classes sites begins p k → AreClassesTo g lines keys classes sites begins p 8
+  pub classes_filled : (p k : ℕ) → k ≤ 8 → length (all_accesses g (slice_index lines p)) ≤ k → AreClassesTo g limit lines keys classes sites begins p k → AreClassesTo g limit lines keys classes sites begins p 8
   classes_filled p k most none t = record {
     numbered = t.numbered;
     within = t.within;
+    limited = t.limited;
     low = t.low;
     begin_count = t.begin_count;
     begin = t.begin;
     own = t.own;
-    each = λ q m a in' before e. t.each q m a in' (elim before [
+    each = λ q m a in' below before e. t.each q m a in' below (elim before [
       | inl l ↦ inl l
       | inr at ↦ (
           let low : m < length (all_accesses g (slice_index lines q)) = slice_get_within (all_accesses g (slice_index lines q)) m a e in
@@ -181,11 +184,28 @@ module _ (g : GraphValue) (lines : List ℕ) (keys : List Access) (classes sites
     count = (let f : length classes ≤ 8 * p + k = t.count in omega arith);
   }
 
+  -- a line from the limit on has none that count
+  pub classes_passed : (p : ℕ) → limit ≤ slice_index lines p → AreClassesTo g limit lines keys classes sites begins p 0 → AreClassesTo g limit lines keys classes sites begins p 8
+  classes_passed p over t = record {
+    numbered = t.numbered;
+    within = t.within;
+    limited = t.limited;
+    low = t.low;
+    begin_count = t.begin_count;
+    begin = t.begin;
+    own = t.own;
+    each = λ q m a in' below before e. t.each q m a in' below (elim before [ inl l ↦ inl l | inr at ↦ (let same : slice_index lines q ≡ slice_index lines p = ap (slice_index lines) at.0 in absurd (omega (arith, same, below, over))) ]) e;
+    known = t.known;
+    few = t.few;
+    count = (let f : length classes ≤ 8 * p + 0 = t.count in omega arith);
+  }
+
   -- the next line begins
-  pub classes_next : IsGraph g → (p : ℕ) (after : List ℕ) → AreClassesTo g lines keys classes sites begins p 8 → after ≡ begins ++ length classes ∷ [] → AreClassesTo g lines keys classes sites after (p + 1) 0
+  pub classes_next : IsGraph g → (p : ℕ) (after : List ℕ) → AreClassesTo g limit lines keys classes sites begins p 8 → after ≡ begins ++ length classes ∷ [] → AreClassesTo g limit lines keys classes sites after (p + 1) 0
   classes_next fits p after t pushed = record {
     numbered = t.numbered;
     within = t.within;
+    limited = t.limited;
     low = λ r low. (let l : place_at sites r ≤ p = t.low r low in omega arith);
     begin_count = ap length pushed ∙ (length-append begins (length classes ∷ []) ∙ ap (λ n. n + 1) t.begin_count);
     begin = λ q le. elim (cases_lt q (p + 1)) [
@@ -197,15 +217,15 @@ module _ (g : GraphValue) (lines : List ℕ) (keys : List Access) (classes sites
       })
     ];
     own = t.own;
-    each = λ q m a in' before e. elim before [
+    each = λ q m a in' below before e. elim before [
       | inr at ↦ (let low : m < 0 = at.1 in absurd (omega arith))
       | inl l ↦ elim (cases_lt q p) [
-        | inl low ↦ t.each q m a in' (inl low) e
+        | inl low ↦ t.each q m a in' below (inl low) e
         | inr up ↦ (
             let low : m < length (all_accesses g (slice_index lines q)) = slice_get_within (all_accesses g (slice_index lines q)) m a e in
             let few : length (all_accesses g (slice_index lines q)) ≤ 8 = few_accesses g fits (slice_index lines q) in
             let same : q ≡ p = omega arith in
-            t.each q m a in' (inr (same, omega arith)) e)
+            t.each q m a in' below (inr (same, omega arith)) e)
       ]
     ];
     known = t.known;
@@ -223,14 +243,15 @@ module _ (g : GraphValue) (lines : List ℕ) (keys : List Access) (classes sites
       new q last = ap (λ xs. slice_index xs q) pushed ∙ get_or_push begins (length classes) 0 q (t.begin_count ∙ sym last)
 
   -- no line is left
-  pub classes_all : (n : ℕ) → n ≡ length lines → AreClassesTo g lines keys classes sites begins n 0 → AreClasses g lines keys classes sites begins
+  pub classes_all : (n : ℕ) → n ≡ length lines → AreClassesTo g limit lines keys classes sites begins n 0 → AreClasses g limit lines keys classes sites begins
   classes_all n all t = record {
     numbered = t.numbered;
     within = t.within;
+    limited = t.limited;
     begin_count = t.begin_count ∙ ap (λ z. z + 1) all;
     begin = λ p le. t.begin p (omega (arith, all));
     own = t.own;
-    each = λ p a in' c. t.each p c.0 a in' (inl (omega (arith, all))) (slice_get-get_or (all_accesses g (slice_index lines p)) c.0 a c.1 ∙ ap Some c.2);
+    each = λ p a in' below c. t.each p c.0 a in' below (inl (omega (arith, all))) (slice_get-get_or (all_accesses g (slice_index lines p)) c.0 a c.1 ∙ ap Some c.2);
     known = t.known;
     few = t.few;
     count = (let f : length classes ≤ 8 * n + 0 = t.count in omega (arith, all));

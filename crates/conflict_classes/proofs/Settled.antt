@@ -1,5 +1,5 @@
 -- Which conflicts are settled.
-use Rattle.std.proofs.Common.{◌≡◌, ℕ, false, not, ◌⊎◌, inl, inr, ◌∙◌, ap}
+use Rattle.std.proofs.Common.{ℕ, false, not, inl, inr, ap}
 use Rattle.std.proofs.lemmas.Bool.{cases_Bool}
 use Rattle.graph_terms.specs.Graph.{GraphValue}
 use Rattle.graph_meaning.specs.Rules.{modes_commute}

@@ -37,27 +37,29 @@ pub record HasNumber (keys : List Access) (classes sites : List ℕ) (p : ℕ) (
 abbrev pub AreOwn : GraphValue → List ℕ → List Access → List ℕ → List ℕ → Type 0
 AreOwn g lines keys classes sites = (r c : ℕ) (a : Access) → slice_get classes r ≡ Some c → slice_get keys c ≡ Some a → Contains (all_accesses g (slice_index lines (place_at sites r))) a
 
--- each access has its number and its class, and nothing else has one
-pub record AreClasses (g : GraphValue) (lines : List ℕ) (keys : List Access) (classes sites begins : List ℕ) : Type 0 where
+-- each access of the lines below a limit has its number and its class, and nothing else has one
+pub record AreClasses (g : GraphValue) (limit : ℕ) (lines : List ℕ) (keys : List Access) (classes sites begins : List ℕ) : Type 0 where
   pub numbered : AreNumbered classes sites
   pub within : (r : ℕ) → r < length sites → place_at sites r < length lines
+  pub limited : (r : ℕ) → r < length sites → slice_index lines (place_at sites r) < limit
   pub begin_count : length begins ≡ length lines + 1
   pub begin : (p : ℕ) → p ≤ length lines → IsBegin sites p (slice_index begins p)
   pub own : AreOwn g lines keys classes sites
-  pub each : (p : ℕ) (a : Access) → p < length lines → Contains (all_accesses g (slice_index lines p)) a → HasNumber keys classes sites p a
+  pub each : (p : ℕ) (a : Access) → p < length lines → slice_index lines p < limit → Contains (all_accesses g (slice_index lines p)) a → HasNumber keys classes sites p a
   pub known : (r c : ℕ) → slice_get classes r ≡ Some c → c < length keys
   pub few : length keys ≤ length classes
   pub count : length classes ≤ 8 * length lines
 
 -- the same of the accesses of the lines before place p and the first k of the line there
-pub record AreClassesTo (g : GraphValue) (lines : List ℕ) (keys : List Access) (classes sites begins : List ℕ) (p k : ℕ) : Type 0 where
+pub record AreClassesTo (g : GraphValue) (limit : ℕ) (lines : List ℕ) (keys : List Access) (classes sites begins : List ℕ) (p k : ℕ) : Type 0 where
   pub numbered : AreNumbered classes sites
   pub within : (r : ℕ) → r < length sites → place_at sites r < length lines
+  pub limited : (r : ℕ) → r < length sites → slice_index lines (place_at sites r) < limit
   pub low : (r : ℕ) → r < length sites → place_at sites r ≤ p
   pub begin_count : length begins ≡ p + 1
   pub begin : (q : ℕ) → q ≤ p → IsBegin sites q (slice_index begins q)
   pub own : AreOwn g lines keys classes sites
-  pub each : (q m : ℕ) (a : Access) → q < length lines → (q < p) ⊎ ((q ≡ p) × (m < k)) → slice_get (all_accesses g (slice_index lines q)) m ≡ Some a → HasNumber keys classes sites q a
+  pub each : (q m : ℕ) (a : Access) → q < length lines → slice_index lines q < limit → (q < p) ⊎ ((q ≡ p) × (m < k)) → slice_get (all_accesses g (slice_index lines q)) m ≡ Some a → HasNumber keys classes sites q a
   pub known : (r c : ℕ) → slice_get classes r ≡ Some c → c < length keys
   pub few : length keys ≤ length classes
   pub count : length classes ≤ 8 * p + k

@@ -24,26 +24,30 @@ const MOST_STEPS: u32 = 64;
 
 /// The access of each class; the class of each access of a line, by its number, and the place of
 /// its line; and for each place the number of the first access of the line there, with the count of
-/// all behind them. The accesses are numbered place by place.
+/// all behind them. The accesses are numbered place by place; those of lines from the limit on are
+/// left out.
 #[derive(Drop)]
 pub(crate) struct Classes {
+    pub(crate) limit: u32,
     pub(crate) keys: Vec<Access>,
     pub(crate) of: Vec<u32>,
     pub(crate) sites: Vec<u32>,
     pub(crate) begins: Vec<u32>,
 }
 
-/// The classes of the accesses of all lines.
+/// The classes of the accesses of the lines below a limit.
 pub(crate) fn classes_of_lines(
     alloc: Global,
     graph: &Graph,
     order: &[u32],
+    limit: u32,
 ) -> Result<Classes, NoMemory>
     requires { IsPlaced graph.now order.now }
-    ensures { IfOk result (λ s. AreClasses graph.now order.now s.keys.items s.of.items s.sites.items s.begins.items) }
+    ensures limit { IfOk result (λ s. s.limit ≡ limit) }
+    ensures classes { IfOk result (λ s. AreClasses graph.now s.limit order.now s.keys.items s.of.items s.sites.items s.begins.items) }
 {
     let lines = graph.lines();
-    let mut classing = Classing::new(alloc, lines)?;
+    let mut classing = Classing::new(alloc, lines, limit)?;
     for place in 0..lines {
         classing.add_line(graph, order, place)?;
     }
@@ -60,13 +64,15 @@ struct Classing {
 
 impl Classing {
     /// No classes of so many lines.
-    fn new(alloc: Global, lines: u32) -> Result<Classing, NoMemory>
-        ensures classes { IfOk result (λ s. (g : GraphValue) (lines : List ℕ) → AreClassesTo g lines s.classes.keys.items s.classes.of.items s.classes.sites.items s.classes.begins.items 0 0) }
+    fn new(alloc: Global, lines: u32, limit: u32) -> Result<Classing, NoMemory>
+        ensures limit { IfOk result (λ s. s.classes.limit ≡ limit) }
+        ensures classes { IfOk result (λ s. (g : GraphValue) (lines : List ℕ) → AreClassesTo g s.classes.limit lines s.classes.keys.items s.classes.of.items s.classes.sites.items s.classes.begins.items 0 0) }
         ensures heads { IfOk result (λ s. 0 < length s.heads.items) }
     {
         let mut begins = with_room(alloc, lines as usize + 1)?;
         push(&mut begins, 0)?;
         let classes = Classes {
+            limit,
             keys: Vec::new(alloc),
             of: with_room(alloc, lines as usize)?,
             sites: with_room(alloc, lines as usize)?,
@@ -85,9 +91,10 @@ impl Classing {
         requires placed { IsPlaced graph.now order.now }
         requires place { place < length order.now }
         requires heads { 0 < length self.old.heads.items }
-        requires classes { AreClassesTo graph.now order.now self.old.classes.keys.items self.old.classes.of.items self.old.classes.sites.items self.old.classes.begins.items place 0 }
+        requires classes { AreClassesTo graph.now self.old.classes.limit order.now self.old.classes.keys.items self.old.classes.of.items self.old.classes.sites.items self.old.classes.begins.items place 0 }
+        ensures limit { self.new.classes.limit ≡ self.old.classes.limit }
         ensures heads { OnOk result (0 < length self.new.heads.items) }
-        ensures classes { OnOk result (AreClassesTo graph.now order.now self.new.classes.keys.items self.new.classes.of.items self.new.classes.sites.items self.new.classes.begins.items (place + 1) 0) }
+        ensures classes { OnOk result (AreClassesTo graph.now self.new.classes.limit order.now self.new.classes.keys.items self.new.classes.of.items self.new.classes.sites.items self.new.classes.begins.items (place + 1) 0) }
     {
         let _ = graph.lines();
         self.add_accesses(graph, order, place)?;
@@ -95,17 +102,21 @@ impl Classing {
         push(&mut self.classes.begins, end)
     }
 
-    /// Gives the accesses of the line at a place their numbers.
+    /// Gives the accesses of the line at a place their numbers, where it stands below the limit.
     fn add_accesses(&mut self, graph: &Graph, order: &[u32], place: u32) -> Result<(), NoMemory>
         requires placed { IsPlaced graph.now order.now }
         requires place { place < length order.now }
         requires heads { 0 < length self.old.heads.items }
-        requires classes { AreClassesTo graph.now order.now self.old.classes.keys.items self.old.classes.of.items self.old.classes.sites.items self.old.classes.begins.items place 0 }
+        requires classes { AreClassesTo graph.now self.old.classes.limit order.now self.old.classes.keys.items self.old.classes.of.items self.old.classes.sites.items self.old.classes.begins.items place 0 }
+        ensures limit { self.new.classes.limit ≡ self.old.classes.limit }
         ensures heads { OnOk result (0 < length self.new.heads.items) }
-        ensures classes { OnOk result (AreClassesTo graph.now order.now self.new.classes.keys.items self.new.classes.of.items self.new.classes.sites.items self.new.classes.begins.items place 8) }
+        ensures classes { OnOk result (AreClassesTo graph.now self.new.classes.limit order.now self.new.classes.keys.items self.new.classes.of.items self.new.classes.sites.items self.new.classes.begins.items place 8) }
     {
         let _ = graph.lines();
         let line = order[place as usize];
+        if line >= self.classes.limit {
+            return Ok(());
+        }
         for k in 0..MAX_CALL_ACCESSES {
             let Some(access) = graph.any_access(line, k) else {
                 return Ok(());
@@ -122,6 +133,7 @@ impl Classing {
         requires heads { 0 < length self.old.heads.items }
         requires few { length self.old.classes.keys.items < 4294967295 }
         ensures heads { OnOk result (0 < length self.new.heads.items) }
+        ensures limit { self.new.classes.limit ≡ self.old.classes.limit }
         ensures of { self.new.classes.of.items ≡ self.old.classes.of.items }
         ensures sites { self.new.classes.sites.items ≡ self.old.classes.sites.items }
         ensures begins { self.new.classes.begins.items ≡ self.old.classes.begins.items }

@@ -34,7 +34,7 @@ pub(crate) fn guards_of(
     held: &Held,
 ) -> Result<Guards, NoMemory>
     requires placed { IsPlaced graph.now order.now }
-    requires classes { AreClasses graph.now order.now classes.now.keys.items classes.now.of.items classes.now.sites.items classes.now.begins.items }
+    requires classes { AreClasses graph.now classes.now.limit order.now classes.now.keys.items classes.now.of.items classes.now.sites.items classes.now.begins.items }
     requires held { IsHeld graph.now held.now }
     ensures { IfOk result (λ s. AreGuards graph.now order.now classes.now.keys.items classes.now.of.items classes.now.sites.items s.locks.items s.starts.items) }
 {
@@ -95,7 +95,7 @@ impl Guarding {
     /// Proposes for each class of reductions a reservation in a section of which a member lies.
     fn propose_all(&mut self, graph: &Graph, order: &[u32], classes: &Classes, held: &Held)
         requires placed { IsPlaced graph.now order.now }
-        requires classes { AreClasses graph.now order.now classes.now.keys.items classes.now.of.items classes.now.sites.items classes.now.begins.items }
+        requires classes { AreClasses graph.now classes.now.limit order.now classes.now.keys.items classes.now.of.items classes.now.sites.items classes.now.begins.items }
         requires held { IsHeld graph.now held.now }
         requires locks { length self.old.locks.items ≡ length classes.now.keys.items }
         ensures locks { length self.new.locks.items ≡ length self.old.locks.items }
@@ -116,7 +116,7 @@ impl Guarding {
         number: usize,
     )
         requires placed { IsPlaced graph.now order.now }
-        requires classes { AreClasses graph.now order.now classes.now.keys.items classes.now.of.items classes.now.sites.items classes.now.begins.items }
+        requires classes { AreClasses graph.now classes.now.limit order.now classes.now.keys.items classes.now.of.items classes.now.sites.items classes.now.begins.items }
         requires held { IsHeld graph.now held.now }
         requires number { number < length classes.now.of.items }
         requires locks { length self.old.locks.items ≡ length classes.now.keys.items }
@@ -134,7 +134,7 @@ impl Guarding {
     /// Opens the sections of all accesses.
     fn open_all(&mut self, graph: &Graph, order: &[u32], classes: &Classes, held: &Held)
         requires placed { IsPlaced graph.now order.now }
-        requires classes { AreClasses graph.now order.now classes.now.keys.items classes.now.of.items classes.now.sites.items classes.now.begins.items }
+        requires classes { AreClasses graph.now classes.now.limit order.now classes.now.keys.items classes.now.of.items classes.now.sites.items classes.now.begins.items }
         requires held { IsHeld graph.now held.now }
         requires locks { length self.old.locks.items ≡ length classes.now.keys.items }
         requires openings { length self.old.openings.items ≡ length graph.now.lines + length (locks graph.now) }
@@ -151,7 +151,7 @@ impl Guarding {
     /// guards the class.
     fn open(&mut self, graph: &Graph, order: &[u32], classes: &Classes, held: &Held, number: usize)
         requires placed { IsPlaced graph.now order.now }
-        requires classes { AreClasses graph.now order.now classes.now.keys.items classes.now.of.items classes.now.sites.items classes.now.begins.items }
+        requires classes { AreClasses graph.now classes.now.limit order.now classes.now.keys.items classes.now.of.items classes.now.sites.items classes.now.begins.items }
         requires held { IsHeld graph.now held.now }
         requires number { number < length classes.now.of.items }
         requires locks { length self.old.locks.items ≡ length classes.now.keys.items }
@@ -186,7 +186,7 @@ impl Guarding {
         held: &Held,
     ) -> Result<Guards, NoMemory>
         requires placed { IsPlaced graph.now order.now }
-        requires classes { AreClasses graph.now order.now classes.now.keys.items classes.now.of.items classes.now.sites.items classes.now.begins.items }
+        requires classes { AreClasses graph.now classes.now.limit order.now classes.now.keys.items classes.now.of.items classes.now.sites.items classes.now.begins.items }
         requires held { IsHeld graph.now held.now }
         requires locks { length self.locks.items ≡ length classes.now.keys.items }
         requires openings { length self.openings.items ≡ length graph.now.lines + length (locks graph.now) }
@@ -215,7 +215,7 @@ impl Guarding {
         number: usize,
     ) -> u32
         requires placed { IsPlaced graph.now order.now }
-        requires classes { AreClasses graph.now order.now classes.now.keys.items classes.now.of.items classes.now.sites.items classes.now.begins.items }
+        requires classes { AreClasses graph.now classes.now.limit order.now classes.now.keys.items classes.now.of.items classes.now.sites.items classes.now.begins.items }
         requires held { IsHeld graph.now held.now }
         requires number { number < length classes.now.of.items }
         requires locks { length self.now.locks.items ≡ length classes.now.keys.items }

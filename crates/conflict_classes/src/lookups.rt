@@ -16,11 +16,12 @@ use sweep_base::line_sections::Held;
 use sweep_base::places::{copied, places};
 
 /// The line at each place and the place of each line; the access of each class, the class and the
-/// place of each access by its number, the number of the first access of the line at each place, and
+/// place of each access of a line below the limit by its number, the number of the first access of the line at each place, and
 /// beside each class those that it conflicts with; the reservation that guards each class, and the
 /// place from which on members of such classes may lie in the section of an access.
 #[derive(Drop)]
 pub struct Table {
+    pub limit: u32,
     pub lines: Vec<u32>,
     pub places: Vec<u32>,
     pub keys: Vec<Access>,
@@ -33,26 +34,30 @@ pub struct Table {
 }
 
 impl Table {
-    /// The table of a graph, or `None` where too many spaces overlap.
+    /// The table of a graph, with the accesses of the lines below a limit, or `None` where too many
+    /// of their spaces overlap.
     pub fn new(
         alloc: Global,
         graph: &Graph,
         order: &[u32],
         held: &Held,
+        limit: u32,
     ) -> Result<Option<Table>, NoMemory>
         requires placed { IsPlaced graph.now order.now }
         requires held { IsHeld graph.now held.now }
-        ensures { IfOk result (λ o. IfSome o (IsTable graph.now)) }
+        ensures limit { IfOk result (λ o. IfSome o (λ t. t.limit ≡ limit)) }
+        ensures table { IfOk result (λ o. IfSome o (IsTable graph.now)) }
     {
         let _ = graph.lines();
         let lines = copied(alloc, order)?;
         let places = places(alloc, graph, order)?;
-        let classes = classes_of_lines(alloc, graph, order)?;
+        let classes = classes_of_lines(alloc, graph, order, limit)?;
         let guards = guards_of(alloc, graph, order, &classes, held)?;
         let Some(near) = near_classes(alloc, graph, classes.keys.as_slice())? else {
             return Ok(None);
         };
         Ok(Some(Table {
+            limit: classes.limit,
             lines,
             places,
             keys: classes.keys,

@@ -1,5 +1,5 @@
 //! Tests of what threads share and of who waits for whom, in chosen orders, by public calls alone: tables of events,
-//! sessions, hints with a deque for each worker, and workers that sleep; and of spaces. It has no code of its own, so that its tests
+//! sessions, hints with a deque for each worker, workers that sleep and a value that is lent; and of spaces. It has no code of its own, so that its tests
 //! are proved once, and the crates below are proved without them.
 #![tactic(auto)]
 
@@ -7,6 +7,8 @@
 mod asking;
 #[cfg(test)]
 mod bound_tests;
+#[cfg(test)]
+mod lending_tests;
 #[cfg(test)]
 mod memory_tests;
 #[cfg(test)]

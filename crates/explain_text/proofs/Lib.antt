@@ -1,5 +1,7 @@
 mod VisibleFacts
 pub mod TextFacts
+mod WordPlaces
+mod WordParts
 pub mod EdgeTexts
 pub mod AcceptedFacts
 pub mod NamedFacts

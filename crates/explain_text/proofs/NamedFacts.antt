@@ -1,15 +1,15 @@
 -- Lines that give names.
-use Rattle.std.proofs.Common.{inl, inr, ◌≡◌, ℕ, suc, map, ◌+◌, ◌-◌, ◌<◌, ◌≤◌, Bool, true, false, cond, ◌||◌, List, [], ◌∷◌, ◌++◌, length, take, drop, refl, sym, ◌∙◌, ap, subst, append_assoc, arith}
+use Rattle.std.proofs.Common.{inl, inr, ◌≡◌, ℕ, zero, suc, map, ◌+◌, ◌-◌, ◌<◌, ◌≤◌, Bool, true, false, cond, ◌||◌, List, [], ◌∷◌, ◌++◌, length, take, drop, refl, sym, ◌∙◌, ap, subst, append_assoc, arith}
 use Rattle.std.specs.Prelude.{Contains, Option, Some, None, IfSome}
 use Rattle.std.specs.Borrow.{Bor}
 use Rattle.std.specs.List.{slice_index_or, list_any}
 use Rattle.std.specs.Str.{bytes_eq}
-use Rattle.std.proofs.lemmas.Bool.{cases_lt}
+use Rattle.std.proofs.lemmas.Bool.{true≢false, cases_lt, cond-true, or_left, or_right}
 use Rattle.std.proofs.lemmas.Option.{none-some, same_Some}
 use Rattle.std.proofs.lemmas.List.{take-map, drop-map, take_more, append-nil, length-drop, length-map, map-append, length-take, take_all, nil_from_length}
 use Rattle.std.proofs.lemmas.List.Elements.{Contains-push_cases}
 use Rattle.basics.specs.Words.{contents}
-use Rattle.explain_text.specs.Named.{with_name, with_told, once_words, first_place, named_text, named_texts}
+use Rattle.explain_text.specs.Named.{is_name_at, with_name, with_told, once_words, first_place, named_text, named_texts}
 use Rattle.explain_text.specs.declared.naming.NamedWord.{NamedWord}
 use Rattle.explain_text.proofs.TextFacts.{then_put}
 
@@ -94,3 +94,12 @@ below_inside w n ls o is = elim (cases_lt (length ls) n) [
       subst (λ z. IfSome z (λ k. k < length ls)) (sym (is ∙ ap (first_place w n) none)) tt)
   | inr within ↦ given_inside w n (length ls) (drop n ls) o is (drop_few n ls within)
 ]
+
+-- a name that stands at a place is among the names, so it is not put again
+stands_among : (w : List ℕ) (ws : List (List ℕ)) (k : ℕ) → is_name_at ws k w ≡ true → list_any (bytes_eq w) ws ≡ true
+stands_among w [] k e = absurd (true≢false (sym e))
+stands_among w (x ∷ xs) zero e = or_left (bytes_eq w x) (list_any (bytes_eq w) xs) e
+stands_among w (x ∷ xs) (suc k) e = or_right (bytes_eq w x) (list_any (bytes_eq w) xs) (stands_among w xs k e)
+
+pub name_is_kept : (ws : List (List ℕ)) (k : ℕ) (w : List ℕ) → is_name_at ws k w ≡ true → ws ≡ with_name ws w
+name_is_kept ws k w e = sym (cond-true (list_any (bytes_eq w) ws) ws (ws ++ w ∷ []) (stands_among w ws k e))

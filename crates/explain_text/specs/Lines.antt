@@ -3,13 +3,14 @@ use Rattle.std.specs.Prelude.{ℕ, ◌+◌, ◌-◌, nat_lt, nat_le, Bool, cond,
 use Rattle.std.specs.List.{slice_index_or}
 use Rattle.graph_terms.specs.declared.verb.Edge.{Edge}
 use Rattle.graph_terms.specs.Graph.{GraphValue}
+use Rattle.graph_terms.specs.Spelling.{line_name}
 use Rattle.explain_graph.specs.declared.causes.Cause.{Cause}
 use Rattle.explain_graph.specs.declared.causes.Cause.TheVariants.{On, Merge, MergeIgnore, Trigger, Cancel, Arrival, PhaseOrder}
 use Rattle.explain_graph.specs.Causes.{cause_in}
 use Rattle.graph_comments.specs.Comments.{comments_above}
 use Rattle.graph_words.specs.Text.{has_comments}
 use Rattle.explain_text.specs.TextLines.{TextLines}
-use Rattle.explain_text.specs.Shown.{shown, more_text}
+use Rattle.explain_text.specs.Shown.{shown, shown_for, more_text}
 use Rattle.explain_text.specs.declared.bounds.TheConstants.{MAX_PATH, HALF_PATH}
 
 -- the number among all lines of a line that has this number without comments, both counted from 1
@@ -44,8 +45,9 @@ cause_word PhaseOrder = codes "phase order"
 abbrev pub waits_for : GraphValue → TextLines → Edge → List ℕ
 waits_for g ls e = by_number g ls e.to ++ (codes " waits for " ++ (by_number g ls e.from ++ (codes " (" ++ (cause_word (cause_in g e) ++ codes ")"))))
 
+-- with the line that waits, as it is told for the name of the other
 abbrev pub edge_text : GraphValue → TextLines → Edge → List ℕ
-edge_text g ls e = waits_for g ls e ++ (codes ": " ++ (shown (line_of g ls e.to) ++ codes "\n"))
+edge_text g ls e = waits_for g ls e ++ (codes ": " ++ (shown_for (line_name g e.from) (line_of g ls e.to) ++ codes "\n"))
 
 -- the same of edges, one after the other
 abbrev pub all_edges_text : GraphValue → TextLines → List Edge → List ℕ

@@ -1,12 +1,13 @@
 -- The names that lines of a text give, and which lines the words of a line name.
-use Rattle.std.specs.Prelude.{◌≡◌, ℕ, zero, suc, is_some, ◌+◌, ◌-◌, ◌||◌, Bool, cond, List, [], ◌∷◌, ◌++◌, map, take, drop, codes, decimal, ◌<◌, IfSome, Option, Some, None}
+use Rattle.std.specs.Prelude.{◌≡◌, ℕ, zero, suc, is_some, ◌+◌, ◌-◌, ◌||◌, Bool, false, cond, List, [], ◌∷◌, ◌++◌, map, take, drop, slice_get, codes, decimal, ◌<◌, IfSome, Option, Some, None}
+use Rattle.std.specs.Option.{option_map_or}
 use Rattle.std.specs.List.{slice_index_or, list_any}
 use Rattle.std.specs.Str.{bytes_eq}
 use Rattle.graph_terms.specs.declared.format.Format.{Format}
 use Rattle.graph_words.specs.Words.{pieces, first_piece}
 use Rattle.graph_words.specs.Draft.{Place, NewName, SpaceName, LockName, BarrierName, UserName, PhaseName, AcquireName, EventName, Column, DataColumn}
 use Rattle.refused_words.specs.Places.{place_at}
-use Rattle.explain_text.specs.Shown.{shown, more_text}
+use Rattle.explain_text.specs.Shown.{shown, shown_for, more_text}
 use Rattle.explain_text.specs.declared.naming.NamedWord.{NamedWord}
 
 -- the words with which a declaration begins
@@ -61,6 +62,10 @@ told_in names number (Some p) w = name_in p w
 abbrev pub told_word : Format → List (List ℕ) → ℕ → List (List ℕ) → ℕ → Option (List ℕ)
 told_word format names number ws k = told_in names number (place_at format ws k) (slice_index_or ws k [])
 
+-- the name of this number is this one
+abbrev pub is_name_at : List (List ℕ) → ℕ → List ℕ → Bool
+is_name_at ws i w = option_map_or (bytes_eq w) (slice_get ws i) false
+
 -- one more name, where it is not there
 abbrev pub with_name : List (List ℕ) → List ℕ → List (List ℕ)
 with_name ws w = cond (list_any (bytes_eq w) ws) ws (ws ++ w ∷ [])
@@ -102,15 +107,15 @@ pub record IsInside (n : ℕ) (x : NamedWord) : Type 0 where
   pub below : IfSome x.below (λ k. k < n)
 
 -- what is told of a word: the line above that gives it, or that none does, and the line below, where one does
-abbrev pub place_text : List (List ℕ) → ℕ → List ℕ
-place_text ls k = decimal (k + 1) ++ (codes ": " ++ (shown (slice_index_or ls k []) ++ codes "\n"))
+abbrev pub place_text : List (List ℕ) → List ℕ → ℕ → List ℕ
+place_text ls w k = decimal (k + 1) ++ (codes ": " ++ (shown_for w (slice_index_or ls k []) ++ codes "\n"))
 
 abbrev pub below_text : List (List ℕ) → List ℕ → Option ℕ → List ℕ
 below_text ls w None = codes "no line above gives " ++ (shown w ++ codes "\n")
-below_text ls w (Some k) = codes "no line above gives " ++ (shown w ++ (codes ", but line " ++ place_text ls k))
+below_text ls w (Some k) = codes "no line above gives " ++ (shown w ++ (codes ", but line " ++ place_text ls w k))
 
 abbrev pub named_by : List (List ℕ) → List ℕ → Option ℕ → Option ℕ → List ℕ
-named_by ls w (Some k) below = shown w ++ (codes " is given by line " ++ place_text ls k)
+named_by ls w (Some k) below = shown w ++ (codes " is given by line " ++ place_text ls w k)
 named_by ls w None below = below_text ls w below
 
 abbrev pub named_text : List (List ℕ) → NamedWord → List ℕ

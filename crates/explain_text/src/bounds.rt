@@ -1,7 +1,14 @@
 //! How much is told at most.
 
-/// Bytes of a line, or of a word of one: of a longer one the front is told, and `..` behind it.
+/// Bytes of a line, or of a word of one: of a longer one a part is told, with `..` where bytes are left
+/// out.
 pub const MAX_SHOWN: usize = 200;
+
+/// A word that stands further behind the front of a long line is told without that front.
+pub const NEAR_FRONT: usize = 100;
+
+/// Bytes before such a word that are told.
+pub const BEFORE_WORD: usize = 32;
 
 /// Edges of a path: of a longer one both ends are told, and how many lie between.
 pub const MAX_PATH: usize = 32;

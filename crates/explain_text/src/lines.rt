@@ -2,6 +2,7 @@
 
 ghost use Rattle.std.specs.Prelude.{◌≡◌, ◌<◌, ◌≤◌, ◌++◌, length, Contains, codes, OnOk};
 ghost use Rattle.graph_terms.specs.Edges.{edges};
+ghost use Rattle.graph_terms.specs.Spelling.{line_name};
 ghost use Rattle.explain_graph.specs.Explanation.{AreEdges};
 ghost use Rattle.explain_text.specs.Shown.{shown};
 ghost use Rattle.explain_text.specs.Lines.{line_number, line_of, by_number, numbered, waits_for, edge_text, all_edges_text, ends_text, edges_text};
@@ -80,13 +81,25 @@ pub(crate) fn put_waits(
     text.put(b")")
 }
 
-/// Puts the same with the line that waits.
+/// Puts the same with the line that waits, as it is told for the name of the other.
 fn put_edge(text: &mut Text, graph: &Graph, lines: &Lines, edge: Edge) -> Result<(), NoMemory>
     requires { Contains (edges graph.now) edge }
     ensures { OnOk result (text.new ≡ text.old ++ edge_text graph.now lines.now edge) }
 {
     put_waits(text, graph, lines, edge)?;
-    put_line(text, graph, lines, edge.to)
+    text.put(b": ")?;
+    text.put_shown_for(name_of(graph, edge.from), line_of(graph, lines, edge.to))?;
+    text.put(b"\n")
+}
+
+/// The name of a line; none where there is no such line.
+fn name_of(graph: &Graph, i: u32) -> &[u8]
+    ensures { result.now ≡ line_name graph.now i }
+{
+    if i >= graph.lines() {
+        return b"";
+    }
+    graph.line(i).name.bytes()
 }
 
 /// Puts edges, one after the other.

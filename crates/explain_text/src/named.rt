@@ -6,7 +6,7 @@ ghost use Rattle.basics.specs.Words.{contents};
 ghost use Rattle.graph_words.specs.Words.{pieces};
 ghost use Rattle.explain_text.specs.Named.{declares, given_by, given_name, given_names, first_place};
 
-use crate::split::cut;
+use graph_words::cuts::cut;
 use index_spaces::NoMemory;
 use index_spaces::room::push;
 use std::alloc::Global;

@@ -2,17 +2,18 @@
 
 ghost use Rattle.std.specs.Prelude.{◌≡◌, ◌++◌, ◌-◌, ◌<◌, length, map, take, option_map, Contains, IfOk, IfSome, OnOk};
 ghost use Rattle.basics.specs.Words.{contents};
-ghost use Rattle.graph_words.specs.Words.{pieces, first_piece};
+ghost use Rattle.graph_words.specs.Words.{pieces};
 ghost use Rattle.refused_words.specs.Places.{place_value};
 ghost use Rattle.explain_text.specs.Named.{IsNamedWord, IsInside, name_in, told_new, told_word, once_words, third_of, over_word, space_word, place_text, below_text, named_text, named_texts, names_text, space_text};
 ghost use Rattle.explain_text.specs.declared.naming.NamedWord.{NamedWord};
 
 use crate::named::first_place;
-use crate::split::{back, cut, front};
+use crate::split::{back, front};
 use crate::text::Text;
 use crate::told_names::NameList;
 use graph_terms::format::Format;
 use graph_terms::table::Place;
+use graph_words::cuts::{before_dot, cut};
 use graph_words::words::word;
 use index_spaces::NoMemory;
 use index_spaces::room::push;
@@ -214,16 +215,6 @@ fn look_up<'a>(names: &[&[u8]], number: u32, word: &'a [u8]) -> NamedWord<'a>
     }
 }
 
-/// The front of a word that names a column, else the word.
-fn before_dot(word: &[u8]) -> &[u8]
-    ensures { result.now ≡ first_piece (pieces 46 word.now) }
-{
-    match cut(word, b'.') {
-        Some((front, _)) => front,
-        None => word,
-    }
-}
-
 /// Puts which lines give the names that words stand for, and how many more names there are.
 pub fn put_named_words(text: &mut Text, lines: &[&[u8]], named: &NamedWords) -> Result<(), NoMemory>
     requires { (x : NamedWord) → Contains named.now.told.items x → IsInside (length lines.now) x }
@@ -269,7 +260,7 @@ fn put_named(text: &mut Text, lines: &[&[u8]], word: &NamedWord) -> Result<(), N
     };
     text.put_shown(word.word)?;
     text.put(b" is given by line ")?;
-    put_place(text, lines, place)
+    put_place(text, lines, word.word, place)
 }
 
 /// Puts that no line above gives a name, and the line below that does, where one does.
@@ -288,17 +279,17 @@ fn put_below(
         return text.put(b"\n");
     };
     text.put(b", but line ")?;
-    put_place(text, lines, place)
+    put_place(text, lines, word, place)
 }
 
-/// Puts the number of a line, from 1, and the line.
-fn put_place(text: &mut Text, lines: &[&[u8]], place: usize) -> Result<(), NoMemory>
+/// Puts the number of a line, from 1, and the line, as it is told for a word.
+fn put_place(text: &mut Text, lines: &[&[u8]], word: &[u8], place: usize) -> Result<(), NoMemory>
     requires { place < length lines.now }
-    ensures { OnOk result (text.new ≡ text.old ++ place_text (contents lines.now) place) }
+    ensures { OnOk result (text.new ≡ text.old ++ place_text (contents lines.now) word.now place) }
 {
     let _ = lines.len();
     text.put_number(place as u64 + 1)?;
     text.put(b": ")?;
-    text.put_shown(lines[place])?;
+    text.put_shown_for(word, lines[place])?;
     text.put(b"\n")
 }

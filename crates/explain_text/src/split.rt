@@ -1,29 +1,25 @@
 //! The lines of a text.
 
-ghost use Rattle.std.specs.Prelude.{◌≡◌, ◌==◌, [], false, take, drop, MatchOption, IfOk};
+ghost use Rattle.std.specs.Prelude.{◌≡◌, ◌≤◌, ◌==◌, [], length, false, take, drop, MatchOption, IfOk};
 ghost use Rattle.std.specs.List.{list_any, slice_index_or};
 ghost use Rattle.basics.specs.Words.{contents};
 ghost use Rattle.graph_words.specs.Cuts.{IsCut};
 ghost use Rattle.graph_words.specs.Words.{pieces};
+ghost use Rattle.explain_text.specs.Shown.{place_of};
 
+use graph_words::cuts::cut;
 use index_spaces::NoMemory;
 use index_spaces::room::push;
+use memchr::memchr;
 use std::alloc::Global;
 
 /// The pieces of bytes between their newlines: one more than there are of these.
 pub fn split_lines(alloc: Global, bytes: &[u8]) -> Result<Vec<&[u8]>, NoMemory>
     ensures { IfOk result (λ v. contents v.items ≡ pieces 10 bytes.now) }
 {
-    split(alloc, bytes, b'\n')
-}
-
-/// The pieces of bytes between the separators.
-pub fn split(alloc: Global, bytes: &[u8], separator: u8) -> Result<Vec<&[u8]>, NoMemory>
-    ensures { IfOk result (λ v. contents v.items ≡ pieces separator bytes.now) }
-{
     let mut parts = Vec::new(alloc);
     let mut rest = bytes;
-    while let Some((part, after)) = cut(rest, separator) {
+    while let Some((part, after)) = cut_line(rest) {
         push(&mut parts, part)?;
         rest = after;
     }
@@ -31,16 +27,31 @@ pub fn split(alloc: Global, bytes: &[u8], separator: u8) -> Result<Vec<&[u8]>, N
     Ok(parts)
 }
 
-/// The bytes before the first `stop` and those behind it. `None` exactly where there is none.
-pub(crate) fn cut(bytes: &[u8], stop: u8) -> Option<(&[u8], &[u8])>
-    ensures { MatchOption result (list_any (λ b. b == stop) bytes.now ≡ false) (λ x. IsCut stop bytes.now x.0.now x.1.now) }
+/// The first line and the bytes behind its newline. `None` exactly where there is no newline.
+fn cut_line(bytes: &[u8]) -> Option<(&[u8], &[u8])>
+    ensures { MatchOption result (list_any (λ b. b == 10) bytes.now ≡ false) (λ x. IsCut 10 bytes.now x.0.now x.1.now) }
 {
-    for (i, b) in bytes.iter().enumerate() {
-        if *b == stop {
-            return Some((&bytes[..i], &bytes[i + 1..]));
-        }
+    match memchr(b'\n', bytes) {
+        Some(end) => Some((&bytes[..end], &bytes[end + 1..])),
+        None => None,
     }
-    None
+}
+
+/// The place in bytes of a word of a line; 0 where it is none of its words.
+pub(crate) fn place_of(word: &[u8], line: &[u8]) -> usize
+    ensures place { result ≡ place_of word.now 0 (pieces 32 line.now) }
+    ensures within { result ≤ length line.now }
+{
+    let mut at = 0;
+    let mut rest = line;
+    while let Some((part, after)) = cut(rest, b' ') {
+        if part == word {
+            return at;
+        }
+        at = line.len() - after.len();
+        rest = after;
+    }
+    if rest == word { at } else { 0 }
 }
 
 /// A part by its place from 0, none where there is none.

@@ -1,10 +1,11 @@
 //! Text that grows at its end.
 
-ghost use Rattle.std.specs.Prelude.{◌≡◌, ◌++◌, [], decimal, length, map, take, OnOk};
-ghost use Rattle.explain_text.specs.Shown.{shown, more_text};
+ghost use Rattle.std.specs.Prelude.{◌≡◌, ◌<◌, ◌≤◌, ◌++◌, [], decimal, length, map, take, OnOk};
+ghost use Rattle.explain_text.specs.Shown.{shown, shown_at, shown_behind, shown_for, more_text, TellsWord};
 ghost use Rattle.explain_text.specs.Visible.{visible, visible_byte};
 
-use crate::bounds::MAX_SHOWN;
+use crate::bounds::{BEFORE_WORD, MAX_SHOWN, NEAR_FRONT};
+use crate::split::place_of;
 use crate::visible::is_plain;
 use index_spaces::NoMemory;
 use itoa::Buffer;
@@ -81,6 +82,41 @@ impl Text {
             return self.put(bytes);
         }
         self.put(&bytes[..MAX_SHOWN - 2])?;
+        self.put(b"..")
+    }
+
+    /// Puts a line at the end as it is told for a word of it: of a long line the part around the word.
+    pub fn put_shown_for(&mut self, word: &[u8], line: &[u8]) -> Result<(), NoMemory>
+        ensures shown { OnOk result (self.new ≡ self.old ++ shown_for word.now line.now) }
+        ensures word { TellsWord word.now line.now }
+    {
+        if line.len() <= MAX_SHOWN {
+            return self.put(line);
+        }
+        self.put_shown_at(place_of(word, line), line)
+    }
+
+    /// Puts the part of a long line around a place.
+    fn put_shown_at(&mut self, place: usize, line: &[u8]) -> Result<(), NoMemory>
+        requires place { place ≤ length line.now }
+        requires long { MAX_SHOWN < length line.now }
+        ensures { OnOk result (self.new ≡ self.old ++ shown_at place line.now) }
+    {
+        if place < NEAR_FRONT {
+            return self.put_shown(line);
+        }
+        self.put_shown_behind(&line[place - BEFORE_WORD..])
+    }
+
+    /// Puts what stands from a place of a long line on.
+    fn put_shown_behind(&mut self, rest: &[u8]) -> Result<(), NoMemory>
+        ensures { OnOk result (self.new ≡ self.old ++ shown_behind rest.now) }
+    {
+        self.put(b"..")?;
+        if rest.len() <= MAX_SHOWN - 2 {
+            return self.put(rest);
+        }
+        self.put(&rest[..MAX_SHOWN - 4])?;
         self.put(b"..")
     }
 

@@ -1,5 +1,6 @@
 //! The names that are told of a line, each once.
 
+use graph_words::words::is_same;
 use index_spaces::NoMemory;
 use indexmap::IndexSet;
 use std::alloc::Global;
@@ -9,6 +10,8 @@ use std::marker::Model;
 #[derive(Drop)]
 pub(crate) struct NameList<'a> {
     names: IndexSet<&'a [u8]>,
+    /// Where the next word is looked for first.
+    next: usize,
 }
 
 impl<'a> Model for NameList<'a> {
@@ -22,7 +25,7 @@ impl<'a> Model for NameList<'a> {
 impl<'a> NameList<'a> {
     ghost use Rattle.std.specs.Prelude.{◌≡◌, ◌<◌, [], length, OnOk};
     ghost use Rattle.std.specs.List.{slice_index_or};
-    ghost use Rattle.explain_text.specs.Named.{with_name};
+    ghost use Rattle.explain_text.specs.Named.{is_name_at, with_name};
 
     /// No name.
     pub(crate) fn new(alloc: Global) -> NameList<'a>
@@ -30,6 +33,7 @@ impl<'a> NameList<'a> {
     {
         NameList {
             names: IndexSet::new(alloc),
+            next: 0,
         }
     }
 
@@ -51,8 +55,43 @@ impl<'a> NameList<'a> {
         }
     }
 
-    /// Puts a name at the end, where it is not there.
+    /// Puts a name at the end, where it is not there. Words often stand in turn, or one several times in a row, so the
+    /// name behind the one that was found and the last one are looked at before all.
     pub(crate) fn add(&mut self, name: &'a [u8]) -> Result<(), NoMemory>
+        ensures { OnOk result (self.new ≡ with_name self.old name.now) }
+    {
+        if self.is_at(self.next, name) {
+            self.go_on();
+            return Ok(());
+        }
+        if self.is_at(self.names.len().saturating_sub(1), name) {
+            return Ok(());
+        }
+        self.put(name)
+    }
+
+    /// Whether the name of number `i` is this one.
+    fn is_at(&self, i: usize, name: &[u8]) -> bool
+        ensures { result ≡ is_name_at self.now i name.now }
+    {
+        match self.names.get_index(i) {
+            Some(other) => is_same(name, other),
+            None => false,
+        }
+    }
+
+    /// Goes on to the name behind, or from the last to the first.
+    fn go_on(&mut self)
+        ensures { self.new ≡ self.old }
+    {
+        self.next = self.next.saturating_add(1);
+        if self.next >= self.names.len() {
+            self.next = 0;
+        }
+    }
+
+    /// Puts a name at the end, where it is not among all.
+    fn put(&mut self, name: &'a [u8]) -> Result<(), NoMemory>
         ensures { OnOk result (self.new ≡ with_name self.old name.now) }
     {
         match self.names.insert(name) {

@@ -24,7 +24,7 @@ record Found (ls : TextLines) (number : ℕ) (reason : Why) (g : GraphValue) (ma
 
 -- and the text on it
 abbrev pub marks : TextLines → ℕ → Why → GraphValue → Option ℕ → Option Quantity → Option ℕ → List NamedWord → ℕ → Option NamedWord → List (List ℕ) → List ℕ
-marks ls number reason g mark limit ended named more space ws = refused_text reason number (refused_line ls.lines number) ws mark ++ (limit_text limit ++ (ended_text g ls ended ++ ((names_text ls.lines named more ++ space_text ls.lines space) ++ (columns_text g ws reason mark ++ advice_text g reason (refused_line ls.lines number) mark))))
+marks ls number reason g mark limit ended named more space ws = refused_text reason number (refused_line ls.lines number) ws mark ++ (limit_text limit ++ (ended_text g ls ended ++ ((names_text ls.lines named more ++ space_text ls.lines space) ++ (columns_text g ws reason mark ++ advice_text g reason (refused_line ls.lines number) ws mark))))
 
 marked_by : {X E : Type 0} (r : Result X E) (ls : TextLines) (number : ℕ) (reason : Why) (g : GraphValue) (old new : List ℕ) (mark : Option ℕ) (limit : Option Quantity) (ended : Option ℕ) (named : List NamedWord) (more : ℕ) (space : Option NamedWord)
     → Found ls number reason g mark limit ended named more space (words_of ls.lines number) → OnOk r (new ≡ old ++ marks ls number reason g mark limit ended named more space (words_of ls.lines number)) → OnOk r (IsMarkedText ls number reason g old new)

@@ -1,11 +1,18 @@
 -- An answer as it is told.
 use Rattle.std.proofs.Common.{◌≡◌, ℕ, ◌+◌, ◌-◌, ◌<◌, ◌≤◌, Bool, true, false, cond, List, ◌++◌, length, take, drop, Bor, refl, sym, ◌∙◌, ap, subst, inl, inr, arith}
-use Rattle.std.specs.Prelude.{◌&&◌, nat_lt, Contains, Result, Ok, Err, IfOk, OnOk, codes}
+use Rattle.std.specs.Prelude.{◌&&◌, nat_lt, Contains, Option, Some, None, Result, Ok, Err, IfOk, OnOk, codes}
+use Rattle.std.specs.Option.{option_map_or}
 use Rattle.std.specs.List.{list_all}
-use Rattle.std.proofs.lemmas.Bool.{lt-ltb}
+use Rattle.std.proofs.lemmas.Bool.{true≢false, lt-ltb}
 use Rattle.std.proofs.lemmas.List.Folds.{list_all-append}
 use Rattle.std.proofs.lemmas.List.{length-append, length-take-le, length-map, take-append-le, take-append-drop}
 use Rattle.basics.specs.Words.{contents}
+use Rattle.graph_terms.specs.declared.why.Why.{Why}
+use Rattle.graph_terms.specs.declared.why.Why.TheVariants as reasons
+use Rattle.graph_terms.specs.Graph.{GraphValue}
+use Rattle.graph_words.specs.Draft.{Place}
+use Rattle.refused_words.specs.Places.{place_at}
+use Rattle.refused_words.specs.Refused.{IsRefusedWord, refuses_in}
 use Rattle.explain_text.specs.Visible.{is_plain, visible, IsFrontOf}
 use Rattle.explain_text.specs.Named.{IsInside, given_names}
 use Rattle.explain_text.specs.declared.naming.NamedWord.{NamedWord}
@@ -70,3 +77,16 @@ plain_or false x y p q = q
 pub told_plain : (most : ℕ) (t : List ℕ) → list_all is_plain t ≡ true → list_all is_plain (told most t) ≡ true
 told_plain most t e = plain_or (nat_lt most (length t)) (take (most - 4) t ++ codes "\n..\n") t
     (list_all-append is_plain (take (most - 4) t) (codes "\n..\n") ∙ ap (λ z. z && list_all is_plain (codes "\n..\n")) (plain_front (most - 4) t e)) e
+
+-- no word is refused of a line without form
+none_at : (g : GraphValue) (ws : List (List ℕ)) (k : ℕ) (o : Option Place) → option_map_or (λ p. refuses_in g ws reasons.Syntax p k) o false ≡ false
+none_at g ws k None = refl
+none_at g ws k (Some p) = refl
+
+abbrev is_twice : Why → Bool
+is_twice reasons.Twice = true
+is_twice _ = false
+
+pub no_word_of_syntax : (g : GraphValue) (ws : List (List ℕ)) → IsRefusedWord g reasons.Syntax ws None
+no_word_of_syntax g ws j low (inl refused) = true≢false (sym refused ∙ none_at g ws j (place_at g.format ws j))
+no_word_of_syntax g ws j low (inr repeat) = true≢false (sym (ap is_twice repeat.0))

@@ -136,13 +136,13 @@ refused_line ls number = slice_index_or ls (number - 1) []
 abbrev pub words_of : List (List ℕ) → ℕ → List (List ℕ)
 words_of ls number = pieces 32 (refused_line ls number)
 
--- what the form of a line tells that is refused behind a graph
-abbrev pub advice_text : GraphValue → Why → List ℕ → Option ℕ → List ℕ
-advice_text g reason line mark = advice g.format (nat_lt 0 (length g.lines)) reason line ++ word_advice g.format reason line mark
+-- what the form of a line of these words tells that is refused behind a graph
+abbrev pub advice_text : GraphValue → Why → List ℕ → List (List ℕ) → Option ℕ → List ℕ
+advice_text g reason line ws mark = advice g.format (nat_lt 0 (length g.lines)) reason line ws ++ word_advice g.format reason line ws mark
 
 -- of a line above which no graph is: that the whole line is refused, and what its form tells
 abbrev pub first_text : List (List ℕ) → ℕ → Why → List ℕ
-first_text ls number reason = mark_text number [] [] None ++ advice One false reason (refused_line ls number)
+first_text ls number reason = mark_text number [] [] None ++ advice One false reason (refused_line ls number) (words_of ls number)
 
 -- a text with what is told of a line that is refused behind a graph: the word that is, or that the whole line is, or for Missing that the text ends there; for Limit the first quantity that the line brings above its bound; the line that has done already what it would do; the names; for Outside the space of the column that is refused; of a column the fields that there are for Unknown, of which kind it is for Kind, and for Meets how accesses may meet; and what the form of the line tells
 pub record IsMarkedText (ls : TextLines) (number : ℕ) (reason : Why) (g : GraphValue) (old new : List ℕ) : Type 0 where
@@ -157,7 +157,7 @@ pub record IsMarkedText (ls : TextLines) (number : ℕ) (reason : Why) (g : Grap
   pub are_named : AreNamed g.format (given_names ls.lines) number (words_of ls.lines number) reason (most_names ls (words_of ls.lines number)) named more
   pub space : Option NamedWord
   pub is_space : TellsSpace g.format ls.lines (given_names ls.lines) number (words_of ls.lines number) reason mark space
-  pub text : new ≡ old ++ (refused_text reason number (refused_line ls.lines number) (words_of ls.lines number) mark ++ (limit_text limit ++ (ended_text g ls ended ++ ((names_text ls.lines named more ++ space_text ls.lines space) ++ (columns_text g (words_of ls.lines number) reason mark ++ advice_text g reason (refused_line ls.lines number) mark)))))
+  pub text : new ≡ old ++ (refused_text reason number (refused_line ls.lines number) (words_of ls.lines number) mark ++ (limit_text limit ++ (ended_text g ls ended ++ ((names_text ls.lines named more ++ space_text ls.lines space) ++ (columns_text g (words_of ls.lines number) reason mark ++ advice_text g reason (refused_line ls.lines number) (words_of ls.lines number) mark)))))
 
 -- the text on a refused line, behind the graph of the lines above it where it is between the first line and the closing one
 abbrev pub IsUnreadText : TextLines → ℕ → Why → Option GraphValue → List ℕ → Type 0

@@ -4,6 +4,7 @@ ghost use Rattle.std.specs.List.{list_all};
 ghost use Rattle.std.specs.Prelude.{◌≡◌, ◌≢◌, ◌++◌, ◌≤◌, nat_lt, Bool, true, length, option_map, Contains, None, IfOk, IfSome, OnOk, MatchOption};
 ghost use Rattle.basics.specs.Words.{contents};
 ghost use Rattle.refused_words.specs.Ends.{IsEndedBy};
+ghost use Rattle.refused_words.specs.Refused.{IsRefusedWord};
 ghost use Rattle.refused_words.specs.Limits.{quantity_value};
 ghost use Rattle.explain_text.specs.Named.{IsInside, names_text, space_text};
 ghost use Rattle.explain_text.specs.declared.naming.NamedWord.{NamedWord};
@@ -19,7 +20,6 @@ use crate::columns::put_columns;
 use checked_graph::Checked;
 use explain_graph::explain;
 use explain_text::bounds::{MAX_ANSWER, MAX_NAMES, MAX_WHOLE};
-use explain_text::split::split;
 use explain_text::visible::visible_front;
 use explain_text::{
     Lines, NamedWord, NamedWords, Text, given_names, line_at, named_space, named_words, put_ended,
@@ -29,6 +29,7 @@ use graph_model::graph::Graph;
 use graph_reader::{Reading, Unread, read_text};
 use graph_terms::format::Format;
 use graph_terms::why::Why;
+use graph_words::words::split;
 use index_spaces::NoMemory;
 use line_forms::line_advice;
 use race_check::check;
@@ -260,11 +261,12 @@ fn put_first(
 {
     put_mark(text, number, &[], &[], None)?;
     let line = line_at(lines, number);
-    let advice = line_advice(alloc, Format::One, false, why, line)?;
+    let words = split(alloc, line, b' ')?;
+    let advice = line_advice(alloc, Format::One, false, why, line, words.as_slice())?;
     text.put(advice.as_slice())
 }
 
-/// Puts what the form of a line tells that is refused behind a graph, and what kind of word the refused one
+/// Puts what the form of a line of these words tells that is refused behind a graph, and what kind of word the refused one
 /// has to be.
 fn put_advice(
     alloc: Global,
@@ -272,14 +274,15 @@ fn put_advice(
     graph: &Graph,
     why: Why,
     line: &[u8],
+    words: &[&[u8]],
     mark: Option<usize>,
 ) -> Result<(), NoMemory>
-    ensures { OnOk result (text.new ≡ text.old ++ advice_text graph.now why line.now mark) }
+    ensures { OnOk result (text.new ≡ text.old ++ advice_text graph.now why line.now (contents words.now) mark) }
 {
     let below = is_below(graph);
-    let advice = line_advice(alloc, graph.format(), below, why, line)?;
+    let advice = line_advice(alloc, graph.format(), below, why, line, words)?;
     text.put(advice.as_slice())?;
-    let told = word_advice(alloc, graph.format(), why, line, mark)?;
+    let told = word_advice(alloc, graph.format(), why, line, words, mark)?;
     text.put(told.as_slice())
 }
 
@@ -319,7 +322,7 @@ fn put_clashes(
 {
     let line = line_at(pieces, number);
     let words = split(alloc, line, b' ')?;
-    let mark = refused_word(alloc, graph, words.as_slice(), why)?;
+    let mark = mark_for(alloc, graph, words.as_slice(), why)?;
     let ended = ended_for(graph, words.as_slice(), mark);
     let names = given_names(alloc, pieces)?;
     let named = named_for(
@@ -346,7 +349,22 @@ fn put_clashes(
     put_ended(text, graph, lines, ended)?;
     put_names(text, pieces, &named, &space)?;
     put_columns(alloc, text, graph, words.as_slice(), why, mark)?;
-    put_advice(alloc, text, graph, why, line, mark)
+    put_advice(alloc, text, graph, why, line, words.as_slice(), mark)
+}
+
+/// The word that is refused. A line without form has none, so its words are not looked at one by one.
+fn mark_for(
+    alloc: Global,
+    graph: &Graph,
+    words: &[&[u8]],
+    why: Why,
+) -> Result<Option<usize>, NoMemory>
+    ensures { IfOk result (IsRefusedWord graph.now why (contents words.now)) }
+{
+    match why {
+        Why::Syntax => Ok(None),
+        _ => refused_word(alloc, graph, words, why),
+    }
 }
 
 /// How many of the names of words are told at most.

@@ -9,9 +9,8 @@ ghost use Rattle.graph_model.specs.Columns.{all_columns};
 ghost use Rattle.explain_top.specs.Fields.{field_in, field_of, said_fields, owner_fields, fields_of};
 
 use explain_text::Text;
-use explain_text::split::split;
 use graph_model::graph::Graph;
-use graph_words::words::word;
+use graph_words::words::{split, word};
 use index_spaces::NoMemory;
 use std::alloc::Global;
 

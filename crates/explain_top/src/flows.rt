@@ -7,12 +7,12 @@ ghost use Rattle.flow_top.specs.FlowText.{FlowText, IsFlowReading, has_event_ver
 ghost use Rattle.explain_top.specs.Flows.{flow_text, over_text, other_rule, other_told, other_text, flow_rule, IsFlowWhole, IsFlowAnswerIn, IsInputAnswer};
 
 use crate::answer::{Answer, Verdict, as_told, explain_in, most_bytes, put_unread_text};
-use explain_text::split::split;
 use explain_text::{Lines, Text, line_at, put_mark, put_unread, split_lines};
 use flow_top::{FlowFault, FlowReading, answer_read, flow_reading, has_event_verb, other_word};
 use graph_model::graph::Graph;
 use graph_reader::Unread;
 use graph_terms::why::Why;
+use graph_words::words::split;
 use index_spaces::NoMemory;
 use std::alloc::Global;
 

@@ -2,8 +2,9 @@
 
 use std::sync::atomic::{AtomicU64, Ordering};
 
-/// How many lines before the first unclaimed one a worker goes at most.
-const MOST_AHEAD: u64 = 128;
+/// How many lines behind the first unclaimed one a worker goes on to at most. The lines between are issued,
+/// so it is a little less than the slots of a run.
+const MOST_AHEAD: u64 = 240;
 
 /// How often a worker tries a step while others take theirs.
 const MOST_TURNS: u32 = 64;

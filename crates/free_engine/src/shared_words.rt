@@ -8,7 +8,7 @@ ghost use Rattle.run_words.specs.declared.words.Words.{Words as TheWords};
 
 use graph_model::graph::Graph;
 use graph_terms::limits::MOST_ACCESSES;
-use graph_terms::verb::Verb;
+use graph_terms::verb::{Access, Mode, Verb};
 use idle_workers::spin;
 use realm_io::Gate;
 use run_core::Issue;
@@ -41,11 +41,38 @@ fn has_column_of(graph: &Graph, line: u32, other: u32, k: u32) -> bool {
 
 /// The column of the access k of what may be a line.
 fn column_of(graph: &Graph, line: u32, k: u32) -> Option<u32> {
+    let access = access_of(graph, line, k)?;
+    Some(access.column)
+}
+
+/// The access k of what may be a line.
+fn access_of(graph: &Graph, line: u32, k: u32) -> Option<Access> {
     if line >= graph.lines() {
         return None;
     }
-    let access = graph.access(line, k)?;
-    Some(access.column)
+    graph.access(line, k)
+}
+
+/// Whether an access keeps another from a column: both only read it where it does not.
+fn excludes(own: Access, other: Access) -> bool {
+    let is_shared = matches!(own.mode, Mode::Read) && matches!(other.mode, Mode::Read);
+    own.column == other.column && !is_shared
+}
+
+/// Whether an access of a line keeps the access k of another one from its column.
+fn excludes_at(graph: &Graph, line: u32, other: u32, k: u32) -> bool {
+    let Some(access) = access_of(graph, other, k) else {
+        return false;
+    };
+    for j in 0..MOST_ACCESSES {
+        let Some(own) = access_of(graph, line, j) else {
+            return false;
+        };
+        if excludes(own, access) {
+            return true;
+        }
+    }
+    false
 }
 
 /// Whether what may be a line gives a reservation back.
@@ -82,7 +109,8 @@ pub(crate) trait SharedWords: Sync {
     /// for it.
     fn follower(&self, line: u32) -> Option<u32>;
 
-    /// Whether a line may run while another one does: they have no column in common.
+    /// Whether a line may run while another one does: they have no column in common but such as both only
+    /// read.
     fn may_run_beside(&self, line: u32, other: u32) -> bool;
 
     /// Whether a line that was put back has left a column or a reservation free that another line does
@@ -165,7 +193,7 @@ impl<'g> SharedWords for Words<'g> {
     fn may_run_beside(&self, line: u32, other: u32) -> bool {
         let graph = self.graph();
         for k in 0..MOST_ACCESSES {
-            if has_column_of(graph, other, line, k) {
+            if excludes_at(graph, other, line, k) {
                 return false;
             }
         }

@@ -1,5 +1,5 @@
 -- What is to be answered, and written, for the text of a graph alone that is checked, and for an accepted graph.
-use Rattle.std.specs.Prelude.{◌≡◌, ℕ, ◌+◌, ◌-◌, ◌*◌, ◌<◌, ◌≤◌, nat_lt, max, Bool, true, false, not, List, [], ◌++◌, length, Option, Some, None, ◌↔◌}
+use Rattle.std.specs.Prelude.{◌≡◌, ℕ, ◌+◌, ◌-◌, ◌*◌, ◌<◌, ◌≤◌, ◌⊎◌, nat_lt, max, Bool, true, false, not, List, [], ◌++◌, length, Option, Some, None, ◌↔◌}
 use Rattle.realm_io.specs.SinkState.{SinkState}
 use Rattle.graph_terms.specs.Graph.{GraphValue}
 use Rattle.graph_terms.specs.declared.outcome.End.TheVariants.{Cancelled, Waiting}
@@ -16,7 +16,11 @@ use Rattle.realm_audit.specs.Text.{trace_text}
 use Rattle.realm_timeline.specs.Timeline.{TimelineValue}
 use Rattle.realm_timeline.specs.declared.slot.Slot.{Slot}
 use Rattle.realm_timeline.specs.Plan.{IsPlan, IsValid, IsGreedy, plan_length, total_cost}
+use Rattle.realm_timeline.specs.Columns.{AreApart, IsGreedyByColumns}
 use Rattle.realm_timeline.specs.Chains.{IsCritical, chain_cost}
+use Rattle.column_pieces.specs.Pieces.{ArePieces, graph_of_pieces}
+use Rattle.column_pieces.specs.declared.pieces.Piece.{Piece}
+use Rattle.piece_graphs.specs.Uncut.{IsUncut}
 use Rattle.realm_timeline.specs.Laws.{AcquiresNone}
 use Rattle.realm_timeline.specs.Text.{timeline_text}
 use Rattle.graph_words.specs.Limits.{text_limit}
@@ -101,16 +105,44 @@ pub record IsTimelineText (processors : ℕ) (g : GraphValue) (out : List ℕ) :
   pub at_most : AcquiresNone g → processors * timeline.span ≤ total_cost g timeline.plan + (processors - 1) * timeline.critical_cost
   pub says : out ≡ timeline_text g timeline
 
+-- the same of a plan in which a line that changes a column runs beside no other that uses it
+pub record IsColumnsText (processors : ℕ) (g : GraphValue) (out : List ℕ) : Type 0 where
+  pub timeline : TimelineValue
+  pub is_plan : IsPlan g processors timeline.plan
+  pub valid : IsValid g timeline.plan
+  pub apart : AreApart g timeline.plan
+  pub greedy : IsGreedyByColumns g processors timeline.plan
+  pub length_is : timeline.span ≡ plan_length timeline.plan
+  pub critical : IsCritical g timeline.critical
+  pub cost_is : timeline.critical_cost ≡ chain_cost g timeline.critical
+  pub says : out ≡ timeline_text g timeline
+
+-- the graph that is run with two workers or more: that of the pieces of columns, or the graph itself where these are not cut
+abbrev pub IsInPieces : GraphValue → GraphValue → Type 0
+IsInPieces g h = ((pieces : List Piece) × ArePieces g pieces × (h ≡ graph_of_pieces g pieces)) ⊎ (IsUncut g × (h ≡ g))
+
+-- and such a timeline of it
+abbrev pub IsPieceText : ℕ → GraphValue → List ℕ → Type 0
+IsPieceText processors g out = (h : GraphValue) × IsInPieces g h × IsColumnsText processors h out
+
 -- how many processors a timeline has: as many as there are workers, but one at least
 abbrev pub processors_for : Request → ℕ
 processors_for request = max request.workers 1
+
+-- the text of the timeline that is asked for
+abbrev pub PlanTextBy : Bool → ℕ → GraphValue → List ℕ → Type 0
+PlanTextBy true processors g out = IsPieceText processors g out
+PlanTextBy false processors g out = IsTimelineText processors g out
+
+abbrev pub IsPlanText : Request → GraphValue → List ℕ → Type 0
+IsPlanText request g out = PlanTextBy request.columns (processors_for request) g out
 
 -- what an action writes of an accepted graph with this need; `audit`, `upgrade` and `session` have answers of their own
 abbrev pub Says : Action → Request → GraphValue → ℕ → List ℕ → Type 0
 Says Run request g need out = IsRunText request.trace g out
 Says Eval request g need out = out ≡ evaluation_text request.trace g
 Says Check request g need out = out ≡ accepted_text need
-Says Timeline request g need out = IsTimelineText (processors_for request) g out
+Says Timeline request g need out = IsPlanText request g out
 Says Make request g need out = out ≡ made_says false g
 Says Audit request g need out = ⊥
 Says Upgrade request g need out = ⊥

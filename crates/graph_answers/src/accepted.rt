@@ -31,7 +31,7 @@ pub fn answer_unrun<K: Sink>(
     match request.action {
         Action::Eval => evaluate(alloc, request.trace, checked, sink),
         Action::Check => put_need(sink, need),
-        Action::Timeline => plan_graph(alloc, request.workers, checked, sink),
+        Action::Timeline => plan_graph(alloc, request, checked, sink),
         _ => unreachable!(),
     }
 }

@@ -24,7 +24,7 @@ pub fn declared(alloc: Global, graph: &Graph) -> Result<Graph, NoMemory>
 }
 
 /// A copy of a declaration.
-fn copy_of_decl(alloc: Global, decl: &Decl) -> Result<Decl, NoMemory>
+pub fn copy_of_decl(alloc: Global, decl: &Decl) -> Result<Decl, NoMemory>
     ensures { IfOk result (λ d. d ≡ decl.now) }
 {
     match decl {

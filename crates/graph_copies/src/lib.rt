@@ -5,5 +5,5 @@ mod decls;
 mod lines;
 mod lists;
 
-pub use decls::declared;
+pub use decls::{copy_of_decl, declared};
 pub use lines::copy_of_line;

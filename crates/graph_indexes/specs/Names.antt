@@ -1,5 +1,5 @@
 -- Names in chains of slots.
-use Rattle.std.specs.Prelude.{◌≡◌, ℕ, zero, suc, ◌+◌, ◌*◌, ◌/◌, ◌%◌, ◌^◌, ◌<◌, ◌⊎◌, false, cond, List, [], length, Option, Some, None, fold, slice_get, MatchOption}
+use Rattle.std.specs.Prelude.{◌≡◌, ℕ, zero, suc, ◌+◌, ◌*◌, ◌/◌, ◌%◌, ◌^◌, ◌<◌, ◌⊎◌, false, cond, List, [], length, Option, Some, None, fold, drop, slice_get, MatchOption}
 use Rattle.std.specs.Cmp.Lexicographic.{slice_cmp}
 use Rattle.std.specs.Ordering.{nat_cmp, is_eq}
 use Rattle.std.specs.Map.{lookup}
@@ -9,16 +9,21 @@ use Rattle.graph_indexes.specs.declared.chains.Entry.{Entry}
 use Rattle.graph_indexes.specs.declared.chains.Seat.{Seat}
 use Rattle.graph_indexes.specs.declared.chains.Seat.TheVariants.{Own, Free, Full}
 use Rattle.graph_indexes.specs.declared.chains.TheConstants.{STEPS}
+use Rattle.graph_terms.specs.NameLaws.{front_number}
 use Rattle.graph_terms.specs.Graph.{GraphValue}
 use Rattle.graph_terms.specs.Fits.{is_used}
 use Rattle.graph_terms.specs.Names.{StandsFor}
 
--- the slot of a name: the highest bits of its bytes, mixed by multiplication modulo 2^64
+-- the hash of a name: the number of its first eight bytes, and each further byte, mixed by multiplication modulo 2^64
 abbrev pub mixed : ℕ → ℕ → ℕ
-mixed hash byte = ((hash + byte) % 2 ^ 64) * 11400714819323198485 % 2 ^ 64
+mixed hash digit = ((hash + digit) % 2 ^ 64) * 11400714819323198485 % 2 ^ 64
 
-abbrev pub slot_of : ℕ → List ℕ → ℕ
-slot_of slots name = ((fold mixed 0 name / 2 ^ 32) * slots % 2 ^ 64) / 2 ^ 32
+unfoldable pub hash_of : List ℕ → ℕ
+hash_of name = fold mixed (mixed 0 (front_number name)) (drop 8 name)
+
+-- the slot of a name, by the highest bits of its hash
+unfoldable pub slot_of : ℕ → List ℕ → ℕ
+slot_of slots name = ((hash_of name / 2 ^ 32) * slots % 2 ^ 64) / 2 ^ 32
 
 -- how many slots there are, for each the number of the first entry of its chain, and the entries
 pub record ChainsValue : Type 0 where

@@ -1,8 +1,8 @@
 //! Names in chains of slots.
 
-ghost use Rattle.std.specs.Prelude.{◌≡◌, ℕ, true, List, Some, None, cond, length, option_copied, slice_get, IfOk, IfSome, OnOk, OnErr};
+ghost use Rattle.std.specs.Prelude.{◌≡◌, ℕ, true, List, Some, None, cond, length, option_copied, fold, slice_get, IfOk, IfSome, OnOk, OnErr};
 ghost use Rattle.std.specs.Str.{bytes_eq};
-ghost use Rattle.graph_indexes.specs.Names.{slot_of, mixed, seat_of, seat_in, told, told_by, next_by, Copies};
+ghost use Rattle.graph_indexes.specs.Names.{slot_of, hash_of, mixed, seat_of, seat_in, told, told_by, next_by, Copies};
 
 use graph_terms::found::Found;
 use graph_terms::name::Name;
@@ -226,17 +226,36 @@ impl Chains {
 fn slot_of(slots: usize, name: &Name) -> usize
     ensures { result ≡ slot_of slots name.now }
 {
-    let mut hash = 0;
-    for byte in name.bytes() {
-        hash = mixed(hash, *byte);
-    }
-    ((hash / 4_294_967_296).wrapping_mul(slots as u64) / 4_294_967_296) as usize
+    ((hash_of(name) / 4_294_967_296).wrapping_mul(slots as u64) / 4_294_967_296) as usize
 }
 
-/// A hash with one more byte.
-fn mixed(hash: u64, byte: u8) -> u64
-    ensures { result ≡ mixed hash byte }
+/// The hash of a name. Most names have no more bytes than those of its first number.
+fn hash_of(name: &Name) -> u64
+    ensures { result ≡ hash_of name.now }
 {
-    hash.wrapping_add(u64::from(byte))
+    let hash = mixed(0, name.front());
+    let bytes = name.bytes();
+    if bytes.len() <= 8 {
+        return hash;
+    }
+    mixed_all(hash, &bytes[8..])
+}
+
+/// A hash with more bytes.
+fn mixed_all(hash: u64, bytes: &[u8]) -> u64
+    ensures { result ≡ fold mixed hash bytes.now }
+{
+    let mut all = hash;
+    for byte in bytes {
+        all = mixed(all, u64::from(*byte));
+    }
+    all
+}
+
+/// A hash with one more digit.
+fn mixed(hash: u64, digit: u64) -> u64
+    ensures { result ≡ mixed hash digit }
+{
+    hash.wrapping_add(digit)
         .wrapping_mul(11_400_714_819_323_198_485)
 }

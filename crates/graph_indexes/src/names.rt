@@ -53,8 +53,8 @@ impl Names {
     }
 
     /// Puts a name in. `NoMemory` leaves the names as they were.
-    pub fn insert(&mut self, name: Name, found: Found) -> Result<(), NoMemory>
-        ensures ok { OnOk result ((q : List ℕ) → named self.new q ≡ cond (bytes_eq name q) (Some found) (named self.old q)) }
+    pub fn insert(&mut self, name: &Name, found: Found) -> Result<(), NoMemory>
+        ensures ok { OnOk result ((q : List ℕ) → named self.new q ≡ cond (bytes_eq name.now q) (Some found) (named self.old q)) }
         ensures err { OnErr result ((q : List ℕ) → named self.new q ≡ named self.old q) }
     {
         if self.chains.is_crowded() {
@@ -84,27 +84,27 @@ impl Names {
     }
 
     /// Puts a name in, with the slots that there are.
-    fn put(&mut self, name: Name, found: Found) -> Result<(), NoMemory>
-        ensures ok { OnOk result ((q : List ℕ) → named self.new q ≡ cond (bytes_eq name q) (Some found) (named self.old q)) }
+    fn put(&mut self, name: &Name, found: Found) -> Result<(), NoMemory>
+        ensures ok { OnOk result ((q : List ℕ) → named self.new q ≡ cond (bytes_eq name.now q) (Some found) (named self.old q)) }
         ensures err { OnErr result (self.new ≡ self.old) }
     {
-        match self.chains.seat(&name) {
+        match self.chains.seat(name) {
             Seat::Own(number) => {
-                self.chains.set(number, &name, Some(found));
+                self.chains.set(number, name, Some(found));
                 Ok(())
             }
-            Seat::Free => self.chains.put_first(&name, Some(found)),
+            Seat::Free => self.chains.put_first(name, Some(found)),
             Seat::Full => self.insert_beside(name, found),
         }
     }
 
     /// Puts a name into the map, which no chain has.
-    fn insert_beside(&mut self, name: Name, found: Found) -> Result<(), NoMemory>
-        requires { told self.old.chains name ≡ None }
-        ensures ok { OnOk result ((q : List ℕ) → named self.new q ≡ cond (bytes_eq name q) (Some found) (named self.old q)) }
+    fn insert_beside(&mut self, name: &Name, found: Found) -> Result<(), NoMemory>
+        requires { told self.old.chains name.now ≡ None }
+        ensures ok { OnOk result ((q : List ℕ) → named self.new q ≡ cond (bytes_eq name.now q) (Some found) (named self.old q)) }
         ensures err { OnErr result (self.new ≡ self.old) }
     {
-        if self.others.insert(name, found).is_err() {
+        if self.others.insert(*name, found).is_err() {
             return Err(NoMemory);
         }
         Ok(())

@@ -1,46 +1,35 @@
 //! Edges with room for more.
 
-ghost use Rattle.std.specs.Prelude.{◌≡◌, ◌<◌, ◌≤◌, ◌+◌, [], ◌∷◌, ◌++◌, length, vec_len, OnOk};
-ghost use Rattle.std.specs.Vec.{vec_capacity};
+ghost use Rattle.std.specs.Prelude.{◌≡◌, ◌<◌, ◌≤◌, ◌+◌, [], ◌∷◌, ◌++◌, length, OnOk};
 ghost use Rattle.graph_indexes.specs.Rows.{KeepsEdges, EndsBelow, HasRoom, KeepsRoom, AddsEdge, AddsEdges, room_at};
 
 use crate::side::Side;
-use arrayvec::ArrayVec;
 use graph_terms::verb::Edge;
 use index_spaces::NoMemory;
-use index_spaces::room::{push_within, reserve};
+use smallvec::SmallVec;
 use std::alloc::Global;
 use std::marker::Model;
 
-/// How many edges are kept without an allocation.
-const FEW: usize = 2;
-
-/// Edges, seen with how many more room is kept for. All stand in `few` while there are no more
-/// than it holds, and else all in `many`: most lines have one or two edges at an end, and room for
-/// these takes no allocation.
+/// Edges, seen with how many more room is kept for. Most lines have one or two edges at an end, and
+/// room for these takes no allocation.
 #[derive(Drop)]
 pub(crate) struct Stock {
-    few: ArrayVec<Edge, FEW>,
-    many: Vec<Edge>,
+    edges: SmallVec<Edge, 2>,
     kept: usize,
 }
 
 impl Model for Stock {
-    ghost use Rattle.std.specs.Prelude.{◌≡◌, ◌<◌, ◌≤◌, ◌+◌, [], ◌++◌, length, max};
-    ghost use Rattle.std.specs.Vec.{vec_capacity};
+    ghost use Rattle.smallvec.specs.SmallVec.{HasRoomFor};
     ghost use Rattle.graph_indexes.specs.Rows.{Stock as StockValue};
 
     ghost Value = { StockValue };
 
     ghost view = { λ a. record {
-      edges = a.few.items ++ a.many.items;
+      edges = a.edges.items;
       room = a.kept;
     } };
 
-    ghost invariant = { λ a. record {
-      apart : 0 < length a.many.items → (a.few.items ≡ []) × (2 < length a.many.items);
-      room : length a.few.items + length a.many.items + a.kept ≤ max 2 (vec_capacity a.many);
-    } };
+    ghost invariant = { λ a. HasRoomFor a.edges a.kept };
 }
 
 impl Stock {
@@ -48,8 +37,7 @@ impl Stock {
         ensures { result.edges ≡ [] }
     {
         Stock {
-            few: ArrayVec::new(),
-            many: Vec::new(alloc),
+            edges: SmallVec::new(alloc),
             kept: 0,
         }
     }
@@ -57,11 +45,7 @@ impl Stock {
     pub(crate) fn edges(&self) -> &[Edge]
         ensures { result.now ≡ self.now.edges }
     {
-        if self.many.is_empty() {
-            self.few.as_slice()
-        } else {
-            &self.many
-        }
+        self.edges.as_slice()
     }
 
     /// Keeps room for one more edge.
@@ -71,9 +55,8 @@ impl Stock {
         ensures more { OnOk result (self.new.room ≡ self.old.room + 1) }
     {
         let kept = self.kept.checked_add(1).ok_or(NoMemory)?;
-        if !self.many.is_empty() || kept > self.few.remaining_capacity() {
-            let more = self.few.len().checked_add(kept).ok_or(NoMemory)?;
-            reserve(&mut self.many, more)?;
+        if self.edges.reserve(kept).is_err() {
+            return Err(NoMemory);
         }
         self.kept = kept;
         Ok(())
@@ -84,27 +67,9 @@ impl Stock {
         ensures edges { self.new.edges ≡ self.old.edges ++ edge ∷ [] }
         ensures room { self.old.room ≤ self.new.room + 1 }
     {
-        if self.many.is_empty() && !self.few.is_full() {
-            self.few.push(edge);
-        } else {
-            push_many(&mut self.few, &mut self.many, edge);
-        }
+        self.edges.push_reserved(edge);
         self.kept -= 1;
     }
-}
-
-/// Adds an edge to `many`, after the edges of `few`, which move there.
-fn push_many(few: &mut ArrayVec<Edge, FEW>, many: &mut Vec<Edge>, edge: Edge)
-    requires { vec_len many.old + length few.old.items < vec_capacity many.old }
-    ensures few { few.new.items ≡ [] }
-    ensures many { many.new.items ≡ many.old.items ++ few.old.items ++ edge ∷ [] }
-    ensures capacity { vec_capacity many.old ≤ vec_capacity many.new }
-{
-    for first in few.as_slice() {
-        push_within(many, *first);
-    }
-    few.clear();
-    push_within(many, edge);
 }
 
 /// Keeps room for each edge at an end of it.

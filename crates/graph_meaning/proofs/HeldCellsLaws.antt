@@ -7,7 +7,7 @@ use Rattle.std.proofs.lemmas.Option.{none-some, same_Some}
 use Rattle.std.proofs.lemmas.List.{length-map, get_or-map, get_or_default, same_lists}
 use Rattle.index_spaces.specs.Space.{has_point, points, space_size, rank, point_at, IsSpace}
 use Rattle.index_spaces.specs.Column.{ColumnValue, cell_of}
-use Rattle.index_spaces.specs.Held.{held_at}
+use Rattle.index_spaces.specs.Held.{held_at, lending_at}
 use Rattle.index_spaces.specs.Laws.{PointsAreListed, PointsAscend, PointOfRank, RankOfPoint}
 use Rattle.graph_terms.specs.Graph.{column_space}
 use Rattle.graph_meaning.specs.Effect.{Cells, Change, CellChange, cell_after, cell_after_if, cells_after_one, cells_after, changes_at, Untouched}
@@ -103,7 +103,7 @@ by_point of_point x f a full h =
     ∙ sym (get_or-map f (points x.space) k 0 d within))
 
 pub changes_by_point : PointsAreListed → PointsAscend → PointOfRank → RankOfPoint → ChangesByPoint
-changes_by_point listed ascend of_rank of_point old new target before after s value change a b is holds number full write same =
+changes_by_point listed ascend of_rank of_point old new target before after s value change a b is holds lending number full write same =
     let space = write.space in
     let each : (cells : Cells) → HasCells old cells → (p : ℕ) → has_point before.space p ≡ true → cell_of after p ≡ cond (has_point s p) (cell_after (change cells p) (cells target p)) (cells target p) =
     λ cells has p h. elim (cases_Bool (has_point s p)) [
@@ -121,6 +121,10 @@ changes_by_point listed ascend of_rank of_point old new target before after s va
             ∙ ap (λ k. option_map (λ (x : ColumnValue). x.space) (held_at old k)) (sym e)
             )
         | inr n ↦ ap (option_map (λ (x : ColumnValue). x.space)) (holds.others c n)
+      ];
+      lendings = λ c. elim (cases_eq c target) [
+        | inl e ↦ ap (lending_at new) e ∙ lending ∙ ap (lending_at old) (sym e)
+        | inr n ↦ holds.lendings c n
       ];
       cells = λ cells has c x there. elim (cases_eq c target) [
         | inl e ↦ (

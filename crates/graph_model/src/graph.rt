@@ -19,7 +19,7 @@ use graph_indexes::rows::Rows;
 use graph_indexes::tables::Tables;
 use graph_items::edges::list_edges;
 use graph_terms::access::{Accesses, in_format, verb_accesses};
-use graph_terms::decl::{BarrierInfo, Decl};
+use graph_terms::decl::{BarrierInfo, ColumnInfo, Decl};
 use graph_terms::format::Format;
 use graph_terms::found::Found;
 use graph_terms::limits::{
@@ -159,7 +159,7 @@ impl Graph {
         let place = self.decls.len() as u32;
         let counts = self.counts_with_decl(&decl);
         reserve(&mut self.decls, 1)?;
-        self.names.insert(name, found)?;
+        self.names.insert(&name, found)?;
         if let Err(error) = self.tables.add(&decl, place) {
             self.names.remove(&name);
             return Err(error);
@@ -202,7 +202,8 @@ impl Graph {
     }
 
     /// Puts a line at the end, by its accesses and the quantities with it. `NoMemory` leaves the
-    /// graph as it was.
+    /// graph as it was. In its callers, since a line is long and would be copied.
+    #[inline(always)]
     fn push_line(&mut self, line: Line, accesses: Accesses, counts: Counts) -> Result<(), NoMemory>
         requires is_line { IsLine line }
         requires named { IsTrue (is_name_in self.old.format line.name) }
@@ -213,13 +214,12 @@ impl Graph {
         ensures err { OnErr result (self.new ≡ self.old) }
     {
         list_edges(&mut self.given, &self.lines, &line)?;
-        let name = line.name;
         let found = Found::Line(self.lines.len() as u32);
         reserve(&mut self.lines, 1)?;
         reserve(&mut self.accesses, 1)?;
-        self.names.insert(name, found)?;
+        self.names.insert(&line.name, found)?;
         if let Err(error) = self.rows.add(&line.verb, &self.given) {
-            self.names.remove(&name);
+            self.names.remove(&line.name);
             return Err(error);
         }
         push_within(&mut self.lines, line);
@@ -336,8 +336,16 @@ impl Graph {
         ensures inst { option_map (λ x. x.inst) (slice_get (columns self.now) c) ≡ Some result.0 }
         ensures field { option_map (λ x. x.field) (slice_get (columns self.now) c) ≡ Some result.1 }
     {
-        let column = self.tables.column(c);
+        let column = self.column_info(c);
         (column.inst, column.field)
+    }
+
+    /// A column by its number.
+    fn column_info(&self, c: u32) -> &ColumnInfo
+        requires { c < length (columns self.now) }
+        ensures { slice_get (columns self.now) c ≡ Some result.now }
+    {
+        self.tables.column(c)
     }
 
     /// How many reservations are declared.
@@ -361,7 +369,15 @@ impl Graph {
         requires { s < length (named_spaces self.now) }
         ensures { option_map (λ x. x.0) (slice_get (named_spaces self.now) s) ≡ Some result }
     {
-        *self.space_decl(s).name()
+        *self.name_of_space(s)
+    }
+
+    /// The name of a space, which is not copied.
+    fn name_of_space(&self, s: u32) -> &Name
+        requires { s < length (named_spaces self.now) }
+        ensures { option_map (λ x. x.0) (slice_get (named_spaces self.now) s) ≡ Some result.now }
+    {
+        self.space_decl(s).name()
     }
 
     /// The name of a reservation.

@@ -1,5 +1,5 @@
 -- What refuses the words of a call.
-use Rattle.std.proofs.Common.{◌≡◌, ℕ, ◌+◌, ◌-◌, ◌*◌, ◌<◌, ◌≤◌, Bool, true, false, cond, not, ◌||◌, List, [], ◌∷◌, ◌++◌, length, take, drop, take_all, get_or, map, refl, sym, ◌∙◌, ap, subst, inr, append_assoc, append-nil, length-append, arith, Bor}
+use Rattle.std.proofs.Common.{◌≡◌, ℕ, ◌+◌, ◌-◌, ◌*◌, ◌≤◌, Bool, true, false, cond, not, ◌||◌, List, [], ◌∷◌, ◌++◌, length, take, drop, take_all, get_or, map, refl, sym, ◌∙◌, ap, subst, inr, append_assoc, append-nil, length-append, arith, Bor}
 use Rattle.std.specs.Prelude.{Some, None, Result, Ok, Err, MatchResult, bytes_eq}
 use Rattle.std.specs.Option.{option_map_or}
 use Rattle.std.proofs.lemmas.List.{map-append}

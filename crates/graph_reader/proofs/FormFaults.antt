@@ -125,7 +125,7 @@ module _ (g : GraphValue) (kind : Kind) (name : List ℕ) (ws : List (List ℕ))
   refused_word w n h = ap (λ r. or_else r (item_fault g (kind_draft g kind name ws).item)) (reason_is n ∙ h)
 
   -- a name in use is the first reason of the line itself
-  left_fault : is_name_in g.format name ≡ true → form_reason g kind name ws ≡ cond (is_used g name) (Some why.Twice) None → draft_fault g (kind_draft g kind name ws) ≡ line_fault g (kind_line g kind name ws)
+  pub left_fault : is_name_in g.format name ≡ true → form_reason g kind name ws ≡ cond (is_used g name) (Some why.Twice) None → draft_fault g (kind_draft g kind name ws) ≡ line_fault g (kind_line g kind name ws)
   left_fault n h = ap (λ r. or_else r (line_fault g (kind_line g kind name ws))) (reason_is n ∙ h) ∙ used_first (is_used g name) _ _
 
   pub read_as : (line : Line) → is_name_in g.format name ≡ true → form_reason g kind name ws ≡ cond (is_used g name) (Some why.Twice) None → line ≡ kind_line g kind name ws → IsLineRead g (kind_draft g kind name ws) (Ok (items.Line line))

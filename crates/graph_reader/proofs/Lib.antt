@@ -17,5 +17,8 @@ pub mod DeclFaults
 pub mod MergeFaults
 pub mod LineShapes
 pub mod ItemReads
+pub mod KnownForms
+pub mod TakenLines
 pub mod ColumnLists
 pub mod Public
+pub mod RecentLines

@@ -22,11 +22,10 @@ use Rattle.graph_terms.specs.declared.table.Kind.{Kind}
 use Rattle.graph_terms.specs.declared.table.Kind.TheVariants as kinds
 use Rattle.graph_terms.specs.declared.table.TheConstants.{KINDS}
 use Rattle.graph_reader.specs.Kinds.{kind_draft}
-use Rattle.graph_reader.specs.declared.item.Item.{Item}
-use Rattle.graph_reader.specs.Reading.{open_fault, IsDeclRead, IsDeclOf, IsLineOf, IsWordsError, IsWordsItem}
+use Rattle.graph_reader.specs.Reading.{open_fault, IsDeclRead, IsDeclOf, IsWordsError}
 use Rattle.graph_terms.specs.Format.{has_since}
 use Rattle.graph_terms.specs.Table.{kind_words}
-use Rattle.graph_words.specs.Draft.{Placed, Draft, draft, merge_with, decl_draft_after, form_of, form_draft, has_events, is_own_word, is_of_form, same_word, merge_draft, line_draft, decl_draft, space_draft, inst_draft, lock_draft, barrier_draft, space_with, columns_with, barrier_with, op_of, data_draft, call_draft}
+use Rattle.graph_words.specs.Draft.{Placed, Draft, draft, merge_with, decl_draft_after, form_of, form_draft, has_events, has_room, is_own_word, is_of_form, same_word, merge_draft, line_draft, decl_draft, space_draft, inst_draft, lock_draft, barrier_draft, space_with, columns_with, barrier_with, op_of, data_draft, call_draft}
 use Rattle.basics.proofs.TestedLists.{find_mapped}
 use Rattle.graph_reader.specs.Laws.{WordsFillPlaces, LineBySign, DeclarationBySign, EmptyByLength, ReservationWords, BarrierWords, InstanceWords, DataWords, LineOfKind, LineOfCall, OperationsHaveTwoWords}
 
@@ -194,6 +193,13 @@ room_by fm t n m b h = elim (or_cases (n == m) _ h) [
   | inr e ↦ (let p = and_parts t (has_events fm m n && b) e in let q = and_parts (has_events fm m n) b p.1 in let k : m + 2 ≤ n = events_long fm m n q.0 in omega arith)
 ]
 
+-- and there is room for them
+pub room_there : (fm : Format) (kind : Kind) (ws : List (List ℕ)) → is_of_form fm ws (form_of kind) ≡ true → has_room fm (form_of kind) (drop (length (form_of kind).words) ws) ≡ true
+room_there fm kind ws h =
+    let p = and_parts (starts_with same_word ws (form_of kind).words) _ h in
+    let q = and_parts (has_since (form_of kind).since fm) _ p.1 in
+    (and_parts (has_room fm (form_of kind) (drop (length (form_of kind).words) ws)) (list_all (λ (x : Placed). is_own_word x.0 x.1) (zip (form_of kind).places (drop (length (form_of kind).words) ws))) q.1).0
+
 pub places_there : WordsFillPlaces
 places_there fm kind ws h =
     let p = and_parts (starts_with same_word ws (form_of kind).words) _ h in
@@ -208,7 +214,12 @@ fixed_there fm kind ws h =
     let cut : ws ≡ kind_words kind ++ drop (length (kind_words kind)) ws = (starts_is (λ a b. bytes_eq-Decides a b) ws (kind_words kind) (starts_with same_word ws (kind_words kind)) refl).0 p.0 in
     omega (arith, ap length cut, length-append (kind_words kind) (drop (length (kind_words kind)) ws))
 
--- a line of a merge that ignores faults
+-- a line of a merge
+pub merging_line : (g : GraphValue) (name : List ℕ) (ws : List (List ℕ)) (v : List ℕ) → v ≡ at ws 0 → bytes_eq v (codes "merge") ≡ true → line_draft g name ws ≡ merge_draft g name Merge (drop 1 ws)
+merging_line g name [] v e a = absurd (true≢false (sym a ∙ ap (λ x. bytes_eq x (codes "merge")) e))
+merging_line g name (w ∷ ws) v e a = cond-true (bytes_eq w (codes "merge")) (merge_draft g name Merge ws) _ (ap (λ x. bytes_eq x (codes "merge")) (sym e) ∙ a)
+
+-- and of one that ignores faults
 pub ignoring_line : (g : GraphValue) (name : List ℕ) (ws : List (List ℕ)) (v : List ℕ) → v ≡ at ws 0 → bytes_eq v (codes "merge") ≡ false → bytes_eq v (codes "mergei") ≡ true → line_draft g name ws ≡ merge_draft g name MergeIgnore (drop 1 ws)
 ignoring_line g name [] v e a b = absurd (true≢false (sym b ∙ ap (λ x. bytes_eq x (codes "mergei")) e))
 ignoring_line g name (w ∷ ws) v e a b =
@@ -260,7 +271,7 @@ decl_first g [] ws h = refl
 decl_first g (l ∷ ls) ws h = absurd (omega (arith, h))
 
 -- what words without an empty one are read as
-filled : (g : GraphValue) (ws : List (List ℕ)) → list_any is_empty ws ≡ false → words_fault g ws ≡ option_map_or (draft_fault g) (draft g ws) (Some why.Syntax)
+pub filled : (g : GraphValue) (ws : List (List ℕ)) → list_any is_empty ws ≡ false → words_fault g ws ≡ option_map_or (draft_fault g) (draft g ws) (Some why.Syntax)
 filled g ws h = cond-false (list_any is_empty ws) (Some why.Syntax) _ h
 
 pub words_empty : (g : GraphValue) (ws : List (List ℕ)) → list_any is_empty ws ≡ true → words_fault g ws ≡ Some why.Syntax
@@ -285,14 +296,6 @@ decl_read g ws None (Err errors.NoMemory) f e h = tt
 decl_read g ws (Some d) (Ok x) f e h = (filled g ws f ∙ (ap (λ o. option_map_or (draft_fault g) o (Some why.Syntax)) e ∙ h.0), d, e, h.1)
 decl_read g ws (Some d) (Err (errors.Refused w)) f e h = filled g ws f ∙ (ap (λ o. option_map_or (draft_fault g) o (Some why.Syntax)) e ∙ h)
 decl_read g ws (Some d) (Err errors.NoMemory) f e h = tt
-
-pub line_read : (g : GraphValue) (ws : List (List ℕ)) (o : Option Draft) (r : Result Item ItemError) → list_any is_empty ws ≡ false → draft g ws ≡ o → IsLineOf g o r → IsWordsItem g ws r
-line_read g ws None (Ok x) f e h = absurd h
-line_read g ws None (Err (errors.Refused w)) f e h = syntax_fault g ws f e ∙ ap Some (sym h)
-line_read g ws None (Err errors.NoMemory) f e h = tt
-line_read g ws (Some d) (Ok x) f e h = (filled g ws f ∙ (ap (λ o. option_map_or (draft_fault g) o (Some why.Syntax)) e ∙ h.0), d, e, h.1)
-line_read g ws (Some d) (Err (errors.Refused w)) f e h = filled g ws f ∙ (ap (λ o. option_map_or (draft_fault g) o (Some why.Syntax)) e ∙ h)
-line_read g ws (Some d) (Err errors.NoMemory) f e h = tt
 
 pub empty_is : EmptyByLength
 empty_is [] = refl

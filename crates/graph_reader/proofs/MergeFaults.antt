@@ -15,7 +15,7 @@ use Rattle.graph_words.specs.Draft.{Place, EventName, Placed, events_placed, mer
 use Rattle.graph_reader.specs.FirstFault.{draft_tests, draft_fault, or_else, item_fault}
 use Rattle.word_meanings.specs.WordFaults.{misnamed, twice, unknown, unlike, misnumbered, misordered, is_line_name}
 use Rattle.graph_reader.specs.Merges.{merge_verb, merge_line, merge_reason, all_lines, IsMergeError}
-use Rattle.graph_reader.specs.Reading.{IsLineRead}
+use Rattle.graph_reader.specs.Reading.{IsDone}
 use Rattle.graph_reader.specs.declared.item.ItemError.{ItemError}
 use Rattle.graph_reader.specs.declared.item.ItemError.TheVariants as errors
 use Rattle.basics.proofs.TestedLists.{same_bytes, bytes_same, any_map}
@@ -123,6 +123,6 @@ module _ (g : GraphValue) (name : List ℕ) (es : List (List ℕ)) (n : IsGraph 
   pub lines_fault : (ignores : Bool) → is_name_in g.format name ≡ true → draft_fault g (merge_with g name (merge_verb ignores) es) ≡ line_fault g (merge_line g ignores name es)
   lines_fault ignores h = ap (λ r. or_else r (line_fault g (merge_line g ignores name es))) (merge_reason_is g name (merge_verb ignores) es h ∙ lines_reason) ∙ left_by ignores
 
-pub error_read : (g : GraphValue) (verb : List ℕ → Verb) (name new : List ℕ) (es : List (List ℕ)) (e : ItemError) → is_name_in g.format name ≡ true → new ≡ name → IsMergeError g new es e → IsLineRead g (merge_with g name verb es) (Err e)
-error_read g verb name new es (errors.Refused w) n k h = merge_refused g name verb es w n (ap (λ x. merge_reason g x es) (sym k) ∙ h)
-error_read g verb name new es errors.NoMemory n k h = tt
+pub error_read : (g : GraphValue) (verb : List ℕ → Verb) (name new : List ℕ) (es : List (List ℕ)) (e : ItemError) → is_name_in g.format name ≡ true → new ≡ name → IsMergeError g new es e → IsDone {T = Unit {0}} g (merge_with g name verb es) g (Err e)
+error_read g verb name new es (errors.Refused w) n k h = (merge_refused g name verb es w n (ap (λ x. merge_reason g x es) (sym k) ∙ h), refl)
+error_read g verb name new es errors.NoMemory n k h = refl

@@ -185,6 +185,35 @@ IsWordsItem g ws (Err e) = IsWordsError g ws e
 abbrev pub IsTaken : GraphValue → List (List ℕ) → GraphValue → Type 0
 IsTaken g ws new = (words_fault g ws ≡ None) × (drafted : Draft) × (draft g ws ≡ Some drafted) × (new ≡ with_value g drafted.item)
 
+-- what words spell that no reason refuses may follow
+unfoldable pub IsTakable : GraphValue → Draft → Type 0
+IsTakable g d = draft_fault g d ≡ None → MayFollow g d.item
+
+-- what is done with a line that is offered: it stands at the end where no reason refuses it, else the graph stays
+abbrev pub IsOffered : {T : Type 0} → GraphValue → Line → GraphValue → Result T ItemError → Type 0
+IsOffered g l new (Ok u) = (line_fault g l ≡ None) × (new ≡ with_line g l)
+IsOffered g l new (Err (errors.Refused w)) = (line_fault g l ≡ Some w) × (new ≡ g)
+IsOffered g l new (Err errors.NoMemory) = new ≡ g
+
+-- what is done with the words of a line in their places
+abbrev pub IsDone : {T : Type 0} → GraphValue → Draft → GraphValue → Result T ItemError → Type 0
+IsDone g d new (Ok u) = (draft_fault g d ≡ None) × (new ≡ with_value g d.item)
+IsDone g d new (Err (errors.Refused w)) = (draft_fault g d ≡ Some w) × (new ≡ g)
+IsDone g d new (Err errors.NoMemory) = new ≡ g
+
+-- and with words that may have no form
+abbrev pub IsDoneOf : {T : Type 0} → GraphValue → Option Draft → GraphValue → Result T ItemError → Type 0
+IsDoneOf g (Some d) new r = IsDone g d new r
+IsDoneOf g None new (Ok u) = ⊥
+IsDoneOf g None new (Err (errors.Refused w)) = (w ≡ why.Syntax) × (new ≡ g)
+IsDoneOf g None new (Err errors.NoMemory) = new ≡ g
+
+-- what is done with words
+abbrev pub IsWordsDone : {T : Type 0} → GraphValue → List (List ℕ) → GraphValue → Result T ItemError → Type 0
+IsWordsDone g ws new (Ok u) = IsTaken g ws new
+IsWordsDone g ws new (Err (errors.Refused w)) = (words_fault g ws ≡ Some w) × (new ≡ g)
+IsWordsDone g ws new (Err errors.NoMemory) = new ≡ g
+
 -- the words are those of an operation line
 abbrev pub is_operation : List (List ℕ) → Bool
 is_operation ws = nat_le 2 (length ws) && bytes_eq (slice_index_or ws 1 []) (codes "=")

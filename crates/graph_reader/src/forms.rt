@@ -1,31 +1,34 @@
 //! Operation lines but for merges and calls.
 
 ghost use Rattle.basics.specs.Words.{contents};
-ghost use Rattle.std.specs.Prelude.{◌≡◌, ◌<◌, ◌≤◌, ◌&&◌, ◌||◌, false, drop, map, length, List, ℕ, [], ◌+◌, slice_index_or, IfOk};
+ghost use Rattle.std.specs.Prelude.{◌≡◌, ◌<◌, ◌≤◌, ◌&&◌, ◌||◌, false, drop, map, length, List, ℕ, [], ◌+◌, slice_index_or, IfOk, OnOk, true};
 ghost use Rattle.std.specs.List.{list_any};
 ghost use Rattle.std.specs.Str.{bytes_eq};
 ghost use Rattle.graph_terms.specs.Fits.{repeats};
 ghost use Rattle.graph_terms.specs.Table.{is_column, parts_of};
-ghost use Rattle.graph_words.specs.Draft.{form_of, number_in, on_events, words_in};
+ghost use Rattle.graph_words.specs.Draft.{form_of, has_room, number_in, on_events, words_in};
 ghost use Rattle.graph_reader.specs.Kinds.{kind_placed, form_placed, column_words, kind_draft, kind_on, form_repeats, later_reason, HasPlaces, IsFormFault};
 ghost use Rattle.word_meanings.specs.Telling.{AllTell};
-ghost use Rattle.graph_reader.specs.Reading.{IsLineRead};
+ghost use Rattle.word_meanings.specs.Recent.{IsRecent};
+ghost use Rattle.graph_reader.specs.Reading.{IsLineRead, IsDone, IsTakable};
 
-use crate::item::{Item, ItemError};
+use crate::item::{Item, ItemError, add_item, offer};
 use graph_model::graph::Graph;
 use graph_terms::lists::EventList;
 use graph_terms::name::Name;
 use graph_terms::table::{Kind, Parts, Place};
 use graph_terms::verb::{Line, Verb};
 use graph_terms::why::Why;
-use graph_words::words::{behind, on_events, word};
+use graph_words::words::{behind, on_events, room_events, word};
 use index_spaces::NoMemory;
 use std::alloc::Global;
 use word_meanings::checks::name_in;
 use word_meanings::events::{events_repeat, see_events};
 use word_meanings::faults::Faults;
+use word_meanings::known::{known_events, known_parts};
 use word_meanings::lookup::stands_for;
 use word_meanings::parts::read_parts;
+use word_meanings::recent::{Recent, no_recent};
 
 fn is_column(place: Place) -> bool
     ensures { result ≡ is_column place }
@@ -170,7 +173,7 @@ fn form_fault(
 }
 
 /// The operation line of a kind with this name and these words, of which the graph itself may still say a reason.
-pub(crate) fn read_form(
+fn read_form(
     alloc: Global,
     graph: &Graph,
     kind: Kind,
@@ -196,4 +199,62 @@ pub(crate) fn read_form(
         verb: Verb::of(kind, &parts),
         on,
     }))
+}
+
+/// Puts the line of a kind with this name and these words at the end, where it fits; else the graph stays as it was. Out of
+/// line, since a reason refuses the words of few lines.
+#[inline(never)]
+fn take_refused(
+    alloc: Global,
+    graph: &mut Graph,
+    kind: Kind,
+    name: &[u8],
+    words: &[&[u8]],
+) -> Result<(), ItemError>
+    requires there { HasPlaces kind (contents words.now) }
+    requires takable { IsTakable graph.old (kind_draft graph.old kind name.now (contents words.now)) }
+    ensures { IsDone graph.old (kind_draft graph.old kind name.now (contents words.now)) graph.new result }
+{
+    let item = read_form(alloc, graph, kind, name, words)?;
+    add_item(graph, item)
+}
+
+/// The same of any line of a kind. What refuses its words is looked for only where a reason refuses one of them.
+pub(crate) fn take_form<'a>(
+    alloc: Global,
+    graph: &mut Graph,
+    recent: &mut Recent<'a>,
+    kind: Kind,
+    name: &[u8],
+    words: &[&'a [u8]],
+) -> Result<(), ItemError>
+    requires recent { IsRecent graph.old recent.old }
+    requires there { HasPlaces kind (contents words.now) }
+    requires room { has_room graph.old.format (form_of kind) (contents words.now) ≡ true }
+    requires takable { IsTakable graph.old (kind_draft graph.old kind name.now (contents words.now)) }
+    ensures done { IsDone graph.old (kind_draft graph.old kind name.now (contents words.now)) graph.new result }
+    ensures recent { OnOk result (IsRecent graph.new recent.new) }
+{
+    let Some(new) = name_in(graph, name) else {
+        return Err(ItemError::Refused(Why::Name));
+    };
+    let Some(parts) = known_parts(graph, recent, kind.places(), words) else {
+        *recent = no_recent();
+        return take_refused(alloc, graph, kind, name, words);
+    };
+    match known_events(alloc, graph, room_events(graph.format(), kind, words)) {
+        Ok(Some(on)) => offer(
+            graph,
+            Line {
+                name: new,
+                verb: Verb::of(kind, &parts),
+                on,
+            },
+        ),
+        Ok(None) => {
+            *recent = no_recent();
+            take_refused(alloc, graph, kind, name, words)
+        }
+        Err(_) => Err(ItemError::NoMemory),
+    }
 }

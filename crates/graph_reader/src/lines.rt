@@ -1,29 +1,32 @@
 //! Lines between the first and the closing one.
 
 ghost use Rattle.basics.specs.Words.{contents};
-ghost use Rattle.std.specs.Prelude.{◌≡◌, ℕ, ◌<◌, map, [], false, true, MatchResult, drop, length, find, codes};
+ghost use Rattle.std.specs.Prelude.{◌≡◌, ◌≤◌, ℕ, ◌<◌, map, [], false, true, MatchResult, OnOk, drop, length, find, codes, None};
+ghost use Rattle.graph_terms.specs.declared.table.TheConstants.{KINDS};
 ghost use Rattle.std.specs.List.{list_any};
 ghost use Rattle.std.specs.Str.{bytes_eq};
 ghost use Rattle.graph_words.specs.Words.{pieces};
-ghost use Rattle.graph_words.specs.Draft.{op_of, line_draft, decl_draft, space_draft, inst_draft, data_draft, lock_draft, barrier_draft, merge_draft, form_of, is_of_form};
+ghost use Rattle.graph_words.specs.Draft.{op_of, line_draft, decl_draft, space_draft, inst_draft, data_draft, lock_draft, barrier_draft, merge_draft, call_draft, form_of, is_of_form};
 ghost use Rattle.word_meanings.specs.Words.{is_empty};
+ghost use Rattle.word_meanings.specs.Recent.{IsRecent};
 ghost use Rattle.graph_reader.specs.Kinds.{kind_draft};
 ghost use Rattle.graph_reader.specs.Merges.{merge_verb};
-ghost use Rattle.graph_reader.specs.Reading.{IsDeclOf, IsLineOf, IsLineRead, IsWordsItem, is_operation};
+ghost use Rattle.graph_reader.specs.Reading.{IsDeclOf, IsDone, IsDoneOf, IsWordsDone, IsWordsItem, is_operation};
 
 use crate::calls::call_line;
 use crate::decls::{read_barrier, read_columns, read_lock, read_space};
-use crate::forms::read_form;
-use crate::item::{Item, ItemError};
-use crate::merges::read_merge;
+use crate::forms::take_form;
+use crate::item::{Item, ItemError, add_item};
+use crate::merges::take_merge;
 use graph_model::graph::Graph;
 use graph_terms::decl::Decl;
 use graph_terms::format::Format;
 use graph_terms::table::Kind;
 use graph_terms::why::Why;
-use graph_words::words::{behind, kind_of, split_into, word};
+use graph_words::words::{behind, is_same, kind_of, word};
 use index_spaces::Op;
 use std::alloc::Global;
+use word_meanings::recent::{Recent, no_recent};
 
 /// The reduction that a word names.
 fn op_of(word: &[u8]) -> Option<Op>
@@ -135,54 +138,100 @@ fn read_decl(alloc: Global, graph: &Graph, words: &[&[u8]]) -> Result<Decl, Item
     Err(ItemError::Refused(Why::Syntax))
 }
 
-/// The merge that words spell, of which the first says so. Out of line, since most lines are of a kind.
-#[inline(never)]
+/// Puts the merge that words spell, of which the first says so, at the end, where it fits; else the graph stays as it was.
 fn merge_line(
     alloc: Global,
-    graph: &Graph,
+    graph: &mut Graph,
     ignores: bool,
     name: &[u8],
     words: &[&[u8]],
-) -> Result<Item, ItemError>
-    ensures { IsLineOf graph.now (merge_draft graph.now name.now (merge_verb ignores) (drop 1 (contents words.now))) result }
+) -> Result<(), ItemError>
+    ensures { IsDoneOf graph.old (merge_draft graph.old name.now (merge_verb ignores) (drop 1 (contents words.now))) graph.new result }
 {
     if words.len() < 2 {
         return Err(ItemError::Refused(Why::Syntax));
     }
-    read_merge(alloc, graph, ignores, name, behind(words, 1))
+    take_merge(alloc, graph, ignores, name, behind(words, 1))
 }
 
-/// The line of a kind that words spell.
-fn kind_line(
+/// Puts the call that words spell, of which the first says so, at the end, where it fits; else the graph stays as it was.
+#[inline(never)]
+fn take_call(
     alloc: Global,
-    graph: &Graph,
-    kind: Kind,
+    graph: &mut Graph,
     name: &[u8],
     words: &[&[u8]],
-) -> Result<Item, ItemError>
-    requires { is_of_form graph.now.format (contents words.now) (form_of kind) ≡ true }
-    ensures { IsLineRead graph.now (kind_draft graph.now kind name.now (drop (length (form_of kind).words) (contents words.now))) result }
+) -> Result<(), ItemError>
+    requires { 1 ≤ length words.now }
+    ensures { IsDoneOf graph.old (call_draft graph.old name.now (drop 1 (contents words.now))) graph.new result }
 {
-    read_form(alloc, graph, kind, name, behind(words, kind.words().len()))
+    match call_line(alloc, graph, name, words) {
+        Ok(item) => add_item(graph, item),
+        Err(error) => Err(error),
+    }
 }
 
-/// The operation line with this name that the words behind the sign spell.
-fn read_line(alloc: Global, graph: &Graph, name: &[u8], words: &[&[u8]]) -> Result<Item, ItemError>
-    ensures { IsLineOf graph.now (line_draft graph.now name.now (contents words.now)) result }
+/// Puts the line of a kind that words spell at the end, where it fits; else the graph stays as it was.
+fn kind_line<'a>(
+    alloc: Global,
+    graph: &mut Graph,
+    recent: &mut Recent<'a>,
+    kind: Kind,
+    name: &[u8],
+    words: &[&'a [u8]],
+) -> Result<(), ItemError>
+    requires recent { IsRecent graph.old recent.old }
+    requires form { is_of_form graph.old.format (contents words.now) (form_of kind) ≡ true }
+    ensures done { IsDone graph.old (kind_draft graph.old kind name.now (drop (length (form_of kind).words) (contents words.now))) graph.new result }
+    ensures recent { OnOk result (IsRecent graph.new recent.new) }
+{
+    let rest = behind(words, kind.words().len());
+    take_form(alloc, graph, recent, kind, name, rest)
+}
+
+/// Puts the merge or the call that words of no kind spell at the end, where it fits; else the graph stays as it was.
+#[inline(never)]
+fn other_line(
+    alloc: Global,
+    graph: &mut Graph,
+    name: &[u8],
+    words: &[&[u8]],
+) -> Result<(), ItemError>
+    requires { find (λ k. is_of_form graph.old.format (contents words.now) (form_of k)) KINDS ≡ None }
+    ensures { IsDoneOf graph.old (line_draft graph.old name.now (contents words.now)) graph.new result }
 {
     let verb = word(words, 0);
-    if verb == b"merge".as_slice() {
+    if is_same(verb, b"merge") {
         return merge_line(alloc, graph, false, name, words);
     }
-    if verb == b"mergei".as_slice() {
+    if is_same(verb, b"mergei") {
         return merge_line(alloc, graph, true, name, words);
     }
-    if verb == b"call".as_slice() {
-        return call_line(alloc, graph, name, words);
+    if is_same(verb, b"call") {
+        return take_call(alloc, graph, name, words);
     }
+    Err(ItemError::Refused(Why::Syntax))
+}
+
+/// Puts the operation line with this name that the words behind the sign spell at the end, where it fits; else the graph
+/// stays as it was.
+fn take_named<'a>(
+    alloc: Global,
+    graph: &mut Graph,
+    recent: &mut Recent<'a>,
+    name: &[u8],
+    words: &[&'a [u8]],
+) -> Result<(), ItemError>
+    requires { IsRecent graph.old recent.old }
+    ensures done { IsDoneOf graph.old (line_draft graph.old name.now (contents words.now)) graph.new result }
+    ensures recent { OnOk result (IsRecent graph.new recent.new) }
+{
     match kind_of(graph.format(), words) {
-        Some(kind) => kind_line(alloc, graph, kind, name, words),
-        None => Err(ItemError::Refused(Why::Syntax)),
+        Some(kind) => kind_line(alloc, graph, recent, kind, name, words),
+        None => {
+            *recent = no_recent();
+            other_line(alloc, graph, name, words)
+        }
     }
 }
 
@@ -196,20 +245,27 @@ fn any_empty(words: &[&[u8]]) -> bool
 fn is_operation(words: &[&[u8]]) -> bool
     ensures { result ≡ is_operation (contents words.now) }
 {
-    words.len() >= 2 && word(words, 1) == b"=".as_slice()
+    words.len() >= 2 && is_same(word(words, 1), b"=")
 }
 
-/// The operation line that words spell, of which none is empty.
-fn operation(alloc: Global, graph: &Graph, words: &[&[u8]]) -> Result<Item, ItemError>
+/// Puts the operation line that words spell, of which none is empty, at the end, where it fits; else the graph stays as it
+/// was.
+fn take_operation<'a>(
+    alloc: Global,
+    graph: &mut Graph,
+    recent: &mut Recent<'a>,
+    words: &[&'a [u8]],
+) -> Result<(), ItemError>
+    requires recent { IsRecent graph.old recent.old }
     requires filled { list_any is_empty (contents words.now) ≡ false }
     requires operation { is_operation (contents words.now) ≡ true }
-    ensures { IsWordsItem graph.now (contents words.now) result }
+    ensures done { IsWordsDone graph.old (contents words.now) graph.new result }
+    ensures recent { OnOk result (IsRecent graph.new recent.new) }
 {
-    read_line(alloc, graph, word(words, 0), behind(words, 2))
+    take_named(alloc, graph, recent, word(words, 0), behind(words, 2))
 }
 
-/// The declaration that words spell, of which none is empty. Out of line, since most lines are operations.
-#[inline(never)]
+/// The declaration that words spell, of which none is empty.
 fn declaration(alloc: Global, graph: &Graph, words: &[&[u8]]) -> Result<Item, ItemError>
     requires filled { list_any is_empty (contents words.now) ≡ false }
     requires declaration { is_operation (contents words.now) ≡ false }
@@ -224,30 +280,35 @@ fn declaration(alloc: Global, graph: &Graph, words: &[&[u8]]) -> Result<Item, It
     }
 }
 
-/// The item that words spell.
-fn read_words(alloc: Global, graph: &Graph, words: &[&[u8]]) -> Result<Item, ItemError>
-    ensures { IsWordsItem graph.now (contents words.now) result }
+/// Puts the declaration that words spell, of which none is empty, at the end, where it fits; else the graph stays as it was.
+/// Out of line, since most lines are operations.
+#[inline(never)]
+fn take_declaration(alloc: Global, graph: &mut Graph, words: &[&[u8]]) -> Result<(), ItemError>
+    requires filled { list_any is_empty (contents words.now) ≡ false }
+    requires declaration { is_operation (contents words.now) ≡ false }
+    ensures { IsWordsDone graph.old (contents words.now) graph.new result }
+{
+    let item = declaration(alloc, graph, words)?;
+    add_item(graph, item)
+}
+
+/// Puts the item that words spell at the end, where it fits; else the graph stays as it was.
+pub(crate) fn take_words<'a>(
+    alloc: Global,
+    graph: &mut Graph,
+    recent: &mut Recent<'a>,
+    words: &[&'a [u8]],
+) -> Result<(), ItemError>
+    requires { IsRecent graph.old recent.old }
+    ensures done { IsWordsDone graph.old (contents words.now) graph.new result }
+    ensures recent { OnOk result (IsRecent graph.new recent.new) }
 {
     if any_empty(words) {
         return Err(ItemError::Refused(Why::Syntax));
     }
     if is_operation(words) {
-        return operation(alloc, graph, words);
+        return take_operation(alloc, graph, recent, words);
     }
-    declaration(alloc, graph, words)
-}
-
-/// The item that a line spells. Its words are put into a list that is kept from line to line.
-pub(crate) fn read_item<'a>(
-    alloc: Global,
-    graph: &Graph,
-    words: &mut Vec<&'a [u8]>,
-    line: &'a [u8],
-) -> Result<Item, ItemError>
-    ensures { IsWordsItem graph.now (pieces 32 line.now) result }
-{
-    let Ok(()) = split_into(words, line, b' ') else {
-        return Err(ItemError::NoMemory);
-    };
-    read_words(alloc, graph, words.as_slice())
+    *recent = no_recent();
+    take_declaration(alloc, graph, words)
 }

@@ -8,9 +8,9 @@ ghost use Rattle.graph_terms.specs.Fits.{repeats, is_used};
 ghost use Rattle.graph_terms.specs.Name.{is_name_in};
 ghost use Rattle.graph_words.specs.Draft.{line_number, merge_with};
 ghost use Rattle.graph_reader.specs.Merges.{merge_verb, merge_reason, all_lines, IsMergeError};
-ghost use Rattle.graph_reader.specs.Reading.{IsLineRead};
+ghost use Rattle.graph_reader.specs.Reading.{IsDone, IsTakable};
 
-use crate::item::{Item, ItemError};
+use crate::item::{ItemError, offer};
 use graph_model::graph::Graph;
 use graph_terms::limits::MAX_EVENTS;
 use graph_terms::lists::{EventList, LineList};
@@ -111,19 +111,20 @@ fn merged(alloc: Global, ignores: bool, name: Name, numbers: Vec<u32>) -> Result
     })
 }
 
-/// The line of a merge of words that name these lines.
-fn read_lines(
+/// Puts the merge of words that name these lines at the end, where it fits; else the graph stays as it was.
+fn take_lines(
     alloc: Global,
-    graph: &Graph,
+    graph: &mut Graph,
     ignores: bool,
     name: Name,
     words: &[&[u8]],
     numbers: Vec<u32>,
-) -> Result<Item, ItemError>
-    requires named { is_name_in graph.now.format name ≡ true }
-    requires lines { all_lines graph.now (contents words.now) ≡ true }
-    requires numbers { numbers.items ≡ map (line_number graph.now) (contents words.now) }
-    ensures { IsLineRead graph.now (merge_with graph.now name (merge_verb ignores) (contents words.now)) result }
+) -> Result<(), ItemError>
+    requires named { is_name_in graph.old.format name ≡ true }
+    requires lines { all_lines graph.old (contents words.now) ≡ true }
+    requires numbers { numbers.items ≡ map (line_number graph.old) (contents words.now) }
+    requires takable { IsTakable graph.old (merge_with graph.old name (merge_verb ignores) (contents words.now)) }
+    ensures { IsDone graph.old (merge_with graph.old name (merge_verb ignores) (contents words.now)) graph.new result }
 {
     let _ = graph.decls();
     match many_repeat(alloc, graph, words) {
@@ -132,26 +133,27 @@ fn read_lines(
         Err(_) => return Err(ItemError::NoMemory),
     }
     match merged(alloc, ignores, name, numbers) {
-        Ok(line) => Ok(Item::Line(line)),
+        Ok(line) => offer(graph, line),
         Err(_) => Err(ItemError::NoMemory),
     }
 }
 
-/// The line of a merge with this name and these words.
-pub(crate) fn read_merge(
+/// Puts the merge with this name and these words at the end, where it fits; else the graph stays as it was.
+pub(crate) fn take_merge(
     alloc: Global,
-    graph: &Graph,
+    graph: &mut Graph,
     ignores: bool,
     name: &[u8],
     words: &[&[u8]],
-) -> Result<Item, ItemError>
-    ensures { IsLineRead graph.now (merge_with graph.now name.now (merge_verb ignores) (contents words.now)) result }
+) -> Result<(), ItemError>
+    requires { IsTakable graph.old (merge_with graph.old name.now (merge_verb ignores) (contents words.now)) }
+    ensures { IsDone graph.old (merge_with graph.old name.now (merge_verb ignores) (contents words.now)) graph.new result }
 {
     let Some(name) = name_in(graph, name) else {
         return Err(ItemError::Refused(Why::Name));
     };
     match lines_of(alloc, graph, words) {
-        Ok(Some(numbers)) => read_lines(alloc, graph, ignores, name, words, numbers),
+        Ok(Some(numbers)) => take_lines(alloc, graph, ignores, name, words, numbers),
         Ok(None) => Err(merge_error(alloc, graph, &name, words)),
         Err(_) => Err(ItemError::NoMemory),
     }

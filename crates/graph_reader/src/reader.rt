@@ -6,21 +6,24 @@ ghost use Rattle.graph_reader.specs.FirstFault.{HasNoHeader};
 ghost use Rattle.std.specs.List.{list_any};
 ghost use Rattle.graph_words.specs.Words.{pieces};
 ghost use Rattle.graph_words.specs.Cuts.{IsCut};
+ghost use Rattle.word_meanings.specs.Recent.{IsRecent};
 ghost use Rattle.graph_words.specs.Text.{GraphText, bare_of, number_of};
-ghost use Rattle.graph_reader.specs.Reading.{item_value, with_value, open_fault, MayFollow, IsOpenError, IsTaken, IsWordsError, IsRefusal, IsReadAs, HasLine, IsBareReadAs, closed_reading};
+ghost use Rattle.graph_reader.specs.Reading.{IsTaken, IsWordsError, IsRefusal, IsReadAs, HasLine, IsBareReadAs, closed_reading};
 ghost use Rattle.graph_reader.specs.declared.reader.Reading.{Reading};
 
 use crate::ReadRefusal;
-use crate::item::{Item, ItemError};
-use crate::lines::read_item;
+use crate::item::ItemError;
+use crate::lines::take_words;
 use graph_model::graph::Graph;
 use graph_terms::format::Format;
 use graph_terms::limits::Limits;
 use graph_terms::why::Why;
 use graph_words::comments::{bare_of, number_of};
+use graph_words::words::{cut_into, is_same};
 use index_spaces::NoMemory;
 use memchr::memchr;
 use std::alloc::Global;
+use word_meanings::recent::{Recent, no_recent};
 
 /// The format that the first line names, and the bytes behind it. `None` exactly where they begin with no such line.
 fn read_header(bytes: &[u8]) -> Option<(Format, &[u8])>
@@ -48,40 +51,25 @@ fn cut_line(bytes: &[u8]) -> Option<(&[u8], &[u8])>
     }
 }
 
-/// Puts an item at the end, where it fits; else the graph stays as it was.
-fn add_item(graph: &mut Graph, item: Item) -> Result<(), ItemError>
-    requires { MayFollow graph.old (item_value item) }
-    ensures added { OnOk result ((open_fault graph.old (item_value item) ≡ None) × (graph.new ≡ with_value graph.old (item_value item))) }
-    ensures refused { IfErr result (IsOpenError graph.old (item_value item)) }
-    ensures stays { OnErr result (graph.new ≡ graph.old) }
-{
-    match item {
-        Item::Decl(decl) => match graph.add_decl(decl) {
-            Ok(()) => Ok(()),
-            Err(_) => Err(ItemError::NoMemory),
-        },
-        Item::Line(line) => match graph.offer_line(line) {
-            Ok(None) => Ok(()),
-            Ok(Some(why)) => Err(ItemError::Refused(why)),
-            Err(_) => Err(ItemError::NoMemory),
-        },
-    }
-}
-
 /// Puts what a line of the text spells at the end; where it spells nothing that fits, the graph stays as it was. The list
 /// serves for its words.
 fn take_line<'a>(
     alloc: Global,
     graph: &mut Graph,
+    recent: &mut Recent<'a>,
     words: &mut Vec<&'a [u8]>,
     line: &'a [u8],
 ) -> Result<(), ItemError>
+    requires { IsRecent graph.old recent.old }
     ensures taken { OnOk result (IsTaken graph.old (pieces 32 line.now) graph.new) }
     ensures refused { IfErr result (IsWordsError graph.old (pieces 32 line.now)) }
     ensures stays { OnErr result (graph.new ≡ graph.old) }
+    ensures recent { OnOk result (IsRecent graph.new recent.new) }
 {
-    let item = read_item(alloc, graph, words, line)?;
-    add_item(graph, item)
+    match cut_into(words, line, b' ') {
+        Ok(count) => take_words(alloc, graph, recent, &words[..count]),
+        Err(_) => Err(ItemError::NoMemory),
+    }
 }
 
 /// What bytes are read as.
@@ -155,13 +143,14 @@ fn read_bare(alloc: Global, bytes: &[u8]) -> Result<Reading, NoMemory>
         }));
     };
     let mut graph = Graph::of_format(alloc, format);
+    let mut recent = no_recent();
     let mut words = Vec::new(alloc);
     let mut number: u32 = 2;
     while let Some((line, after)) = cut_line(rest) {
-        if line == b"end".as_slice() {
+        if is_same(line, b"end") {
             return Ok(closed(graph, number, after, bytes.len() - after.len()));
         }
-        match take_line(alloc, &mut graph, &mut words, line) {
+        match take_line(alloc, &mut graph, &mut recent, &mut words, line) {
             Ok(()) => {}
             Err(ItemError::Refused(why)) => return Ok(refused_behind(graph, number, why)),
             Err(ItemError::NoMemory) => return Err(NoMemory),

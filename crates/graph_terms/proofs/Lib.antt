@@ -12,4 +12,5 @@ pub mod VerbFacts
 pub mod ReleaseFacts
 pub mod EdgeFacts
 pub mod NameOrder
+pub mod NameCopy
 pub mod Public

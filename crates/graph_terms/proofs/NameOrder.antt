@@ -1,4 +1,4 @@
--- The order of names by the number of their first bytes.
+-- The order of names by the number of their first bytes, and short names that have one number.
 use Rattle.std.proofs.Common.{◌≡◌, ℕ, zero, suc, ◌+◌, ◌-◌, ◌*◌, ◌<◌, ◌≤◌, true, ◌&&◌, ◌||◌, List, [], ◌∷◌, ◌++◌, length, replicate, get_or, Less, Equal, Greater, refl, sym, ap, ◌∙◌, inl, inr, arith}
 use Rattle.std.specs.Prelude.{nat_le, ◌==◌}
 use Rattle.std.specs.Ordering.{nat_cmp, ordering_then}
@@ -7,7 +7,9 @@ use Rattle.std.specs.Cmp.{nat_cmp_is}
 use Rattle.std.specs.Char.{is_ascii_lowercase, is_ascii_uppercase, is_ascii_digit}
 use Rattle.std.specs.List.{list_all, AllByRecursion}
 use Rattle.std.proofs.Math.Nat.{mul-le-mul_right}
-use Rattle.std.proofs.lemmas.Bool.{cases_lt, and_parts, leb-true, or_cases, eqb-true}
+use Rattle.std.specs.Str.{bytes_eq}
+use Rattle.std.proofs.lemmas.Bool.{cases_lt, and_parts, leb-true, le-leb, or_cases, eqb-true}
+use Rattle.std.proofs.lemmas.Slice.Eq.{bytes_eq-Decides}
 use Rattle.graph_terms.specs.declared.format.Format.TheVariants.{Three}
 use Rattle.graph_terms.specs.Name.{is_first_byte, is_later_byte, is_name_in, padded}
 use Rattle.graph_terms.specs.NameLaws.{front_number}
@@ -105,7 +107,7 @@ with_zeros [] n i = zeros n i
 with_zeros (b ∷ bs) n zero = refl
 with_zeros (b ∷ bs) n (suc i) = with_zeros bs n i
 
-front_of_padded : (d : List ℕ) → front_number (padded d) ≡ front_number d
+pub front_of_padded : (d : List ℕ) → front_number (padded d) ≡ front_number d
 front_of_padded d =
     let n = 63 - length d in
     let a = with_zeros d n 0 in
@@ -146,10 +148,10 @@ bytes_of (b ∷ bs) h =
     (first_small b q.1, name_bytes bs p.1)
 
 -- names whose first bytes come to different numbers are ordered as these
-pub ordered_by_front : (xs ys : List ℕ) → is_name_in Three xs ≡ true → is_name_in Three ys ≡ true → (f g : ℕ) → f ≡ front_number (padded xs) → g ≡ front_number (padded ys) → (f ≡ g → ⊥) → nat_cmp f g ≡ slice_cmp nat_cmp xs ys
+pub ordered_by_front : (xs ys : List ℕ) → is_name_in Three xs ≡ true → is_name_in Three ys ≡ true → (f g : ℕ) → f ≡ front_number xs → g ≡ front_number ys → (f ≡ g → ⊥) → nat_cmp f g ≡ slice_cmp nat_cmp xs ys
 ordered_by_front xs ys h i f g e j n =
-    let one : f ≡ value 8 xs = e ∙ front_of_padded xs ∙ sym (eight xs) in
-    let other : g ≡ value 8 ys = j ∙ front_of_padded ys ∙ sym (eight ys) in
+    let one : f ≡ value 8 xs = e ∙ sym (eight xs) in
+    let other : g ≡ value 8 ys = j ∙ sym (eight ys) in
     elim (cases_lt f g) [
       | inl a ↦ sym (nat_cmp_is f g Less a) ∙ sym (less 8 xs ys (bytes_of xs h) (bytes_of ys i) (omega (arith, a, one, other)))
       | inr a ↦ (
@@ -157,3 +159,30 @@ ordered_by_front xs ys h i f g e j n =
           sym (nat_cmp_is f g Greater b) ∙ sym (greater 8 xs ys (bytes_of xs h) (bytes_of ys i) (omega (arith, b, one, other)))
           )
     ]
+
+-- bytes that come to one number are the same ones, where there are no more than its digits and as many on both sides
+same_value : (k : ℕ) (xs ys : List ℕ) → Bytes xs → Bytes ys → length xs ≡ length ys → length xs ≤ k → value k xs ≡ value k ys → xs ≡ ys
+same_value k [] [] h i l s v = refl
+same_value k [] (y ∷ ys) h i l s v = absurd (omega (arith, l))
+same_value k (x ∷ xs) [] h i l s v = absurd (omega (arith, l))
+same_value zero (x ∷ xs) (y ∷ ys) h i l s v = absurd (omega (arith, s))
+same_value (suc k) (x ∷ xs) (y ∷ ys) h i l s v = elim (cases_lt x y) [
+  | inl a ↦ (let more = first_decides k x y xs ys h.1 i.1 a in absurd (omega (arith, v, more)))
+  | inr a ↦ elim (cases_lt y x) [
+    | inl b ↦ (let more = first_decides k y x ys xs i.1 h.1 b in absurd (omega (arith, v, more)))
+    | inr b ↦ (
+        let same : x ≡ y = omega (arith, a, b) in
+        let digit : x * worth k ≡ y * worth k = ap (λ n. n * worth k) same in
+        ap (λ n. n ∷ xs) same ∙ ap (λ r. y ∷ r) (same_value k xs ys h.1 i.1 (omega (arith, l)) (omega (arith, s)) (omega (arith, v, digit)))
+        )
+  ]
+]
+
+-- names of at most eight bytes with one number of their first bytes, and as many bytes, are one name
+pub short_same : (xs ys : List ℕ) → is_name_in Three xs ≡ true → is_name_in Three ys ≡ true → (m n f g : ℕ) → m ≡ length xs → n ≡ length ys →
+    f ≡ front_number xs → g ≡ front_number ys → f ≡ g → m ≡ n → m ≤ 8 → nat_le m 8 ≡ bytes_eq xs ys
+short_same xs ys h i m n f g a b e j p q s =
+    let one : f ≡ value 8 xs = e ∙ sym (eight xs) in
+    let other : g ≡ value 8 ys = j ∙ sym (eight ys) in
+    le-leb m 8 s
+    ∙ sym ((bytes_eq-Decides xs ys).1 (same_value 8 xs ys (bytes_of xs h) (bytes_of ys i) (omega (arith, a, b, q)) (omega (arith, a, s)) (omega (arith, one, other, p))))

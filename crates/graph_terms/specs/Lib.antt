@@ -9,5 +9,6 @@ pub mod Spelling
 pub mod Fits
 pub mod Names
 pub mod NameLaws
+pub mod NameParts
 pub mod Reservations
 pub mod Laws

@@ -11,17 +11,16 @@ four_bytes bytes i = ((slice_index bytes i * 256 + slice_index bytes (i + 1)) * 
 abbrev pub front_number : List ℕ → ℕ
 front_number bytes = four_bytes bytes 0 * 4294967296 + four_bytes bytes 4
 
--- a name with the number of its first bytes
+-- the fields of a name
 pub record IsName (a : Inside) : Type 0 where
   pub padded : IsPadded a.len a.bytes
-  pub front : a.front ≡ front_number a.bytes
 
 -- the fields that a name gives back
 abbrev pub fields_of : List ℕ → Inside
-fields_of d = record { bytes = padded d; len = length d; front = front_number (padded d) }
+fields_of d = record { bytes = padded d; len = length d }
 
 abbrev made : List ℕ → ℕ → Inside
-made b n = record { bytes = b; len = n; front = front_number b }
+made b n = record { bytes = b; len = n }
 
 taken_length : (n : ℕ) (bytes : List ℕ) → n ≤ length bytes → length (take n bytes) ≡ n
 taken_length n bytes h = simp length-take (omega arith)
@@ -34,4 +33,3 @@ same_fields b b' n n' e f = ap (λ x. made x n) e ∙ ap (λ y. made b' y) f
 pub fields_of-take : (a : Inside) → IsName a → fields_of (take a.len a.bytes) ≡ a
 fields_of-take a h =
     same_fields (padded (take a.len a.bytes)) a.bytes (length (take a.len a.bytes)) a.len (sym h.padded.rest) (taken_length a.len a.bytes h.padded.short)
-    ∙ ap (λ f. record { bytes = a.bytes; len = a.len; front = f }) (sym h.front)

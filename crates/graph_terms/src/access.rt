@@ -1,8 +1,8 @@
 //! What lines read and write.
 
-ghost use Rattle.std.specs.Prelude.{◌≡◌, true, slice_get};
+ghost use Rattle.std.specs.Prelude.{◌≡◌, Some, true, slice_get};
 ghost use Rattle.graph_terms.specs.Table.{is_row, parts_from};
-ghost use Rattle.graph_terms.specs.Access.{access_in, in_format, or_write, mode_in, accesses_of, verb_accesses, kept_accesses, present};
+ghost use Rattle.graph_terms.specs.Access.{access, access_in, in_format, or_write, mode_in, accesses_of, verb_accesses, kept_accesses, present};
 
 use crate::format::Format;
 use crate::table::{Parts, Place};
@@ -11,10 +11,41 @@ use crate::verb::{Access, Mode, Verb};
 /// Up to three accesses, in order.
 pub type Accesses = [Option<Access>; 3];
 
-/// The accesses of a line that does this.
+/// The accesses of a line that does this. Those of fills and copies, which are many, are not looked up
+/// in the table.
 pub fn verb_accesses(verb: &Verb) -> Accesses
     ensures each { result ≡ kept_accesses verb.now }
     ensures present { present result ≡ verb_accesses verb.now }
+{
+    match *verb {
+        Verb::Fill { target, space, .. } => [over(target, space, Mode::Write), None, None],
+        Verb::Copy {
+            source,
+            target,
+            space,
+        } => [
+            over(source, space, Mode::Read),
+            over(target, space, Mode::Write),
+            None,
+        ],
+        _ => placed_accesses(verb),
+    }
+}
+
+/// The access of a column over a space.
+fn over(column: u32, space: u32, mode: Mode) -> Option<Access>
+    ensures { result ≡ Some (access column space mode) }
+{
+    Some(Access {
+        column,
+        space,
+        mode,
+    })
+}
+
+/// The accesses of a line that does this, by the table of kinds.
+fn placed_accesses(verb: &Verb) -> Accesses
+    ensures { result ≡ kept_accesses verb.now }
 {
     match verb.kind() {
         Some(kind) => {

@@ -10,9 +10,6 @@ pub struct Name {
     /// Its bytes, and zeros behind them.
     bytes: [u8; 63],
     len: u8,
-    /// Its first bytes as one number, so that most names are told apart, and ordered, by one
-    /// comparison.
-    front: u64,
 }
 
 impl Model for Name {
@@ -30,7 +27,7 @@ impl Model for Name {
     ghost inverse_ok = { fields_of-take };
 }
 
-ghost use Rattle.std.specs.Prelude.{◌≡◌, ◌+◌, ◌*◌, ◌<◌, true, false, IsTrue, MatchOption};
+ghost use Rattle.std.specs.Prelude.{◌≡◌, ◌+◌, ◌*◌, ◌<◌, ◌≤◌, ◌++◌, drop, length, true, false, IsTrue, MatchOption};
 ghost use Rattle.std.specs.List.{list_all};
 ghost use Rattle.std.specs.Str.{bytes_eq};
 ghost use Rattle.std.proofs.Common.{rules};
@@ -39,8 +36,9 @@ ghost use Rattle.std.specs.Cmp.Lexicographic.{slice_cmp};
 ghost use Rattle.std.specs.Cmp.Rules.{comparing};
 ghost use Rattle.std.specs.Ordering.{nat_cmp, as_partial_cmp};
 ghost use Rattle.graph_terms.specs.declared.format.Format.TheVariants.{Three};
-ghost use Rattle.graph_terms.specs.Name.{is_name_byte, is_name, is_first_byte, is_later_byte, is_long_name, is_name_in};
+ghost use Rattle.graph_terms.specs.Name.{is_name, is_name_in};
 ghost use Rattle.graph_terms.specs.NameLaws.{front_number};
+ghost use Rattle.graph_terms.specs.NameParts.{is_first_in, is_later_in, most_bytes, begins_name};
 
 impl Name {
     /// The name of formats 1 and 2 of these bytes: a small letter, and up to 30 small letters, digits
@@ -59,24 +57,17 @@ impl Name {
         ensures { MatchOption result (is_name_in format bytes.now ≡ false)
             (λ name. (name ≡ bytes.now) × IsTrue (is_name_in format bytes.now)) }
     {
-        if !is_spelled_in(format, bytes) {
+        if !begins_name(format, bytes) {
             return None;
         }
-        Some(Name::padded(bytes))
-    }
-
-    /// The name of these bytes, with zeros behind them.
-    fn padded(bytes: &[u8]) -> Name
-        requires { is_name_in Three bytes.now ≡ true }
-        ensures { result ≡ bytes.now }
-    {
         let mut padded = [0; 63];
-        padded[..bytes.len()].copy_from_slice(bytes);
-        Name {
+        if !copy_parts(format, bytes, &mut padded) {
+            return None;
+        }
+        Some(Name {
             bytes: padded,
             len: bytes.len() as u8,
-            front: front_of(&padded),
-        }
+        })
     }
 
     /// Its bytes.
@@ -86,6 +77,14 @@ impl Name {
     {
         &self.bytes[..self.len as usize]
     }
+
+    /// Its first eight bytes as a number, the first of them its highest digit. A byte that is not
+    /// there counts as 0.
+    pub fn front(&self) -> u64
+        ensures { result ≡ front_number self.now }
+    {
+        front_of(&self.bytes)
+    }
 }
 
 impl PartialEq for Name {
@@ -94,8 +93,19 @@ impl PartialEq for Name {
     ghost laws = { Prim.search (comparing, rules) };
 
     fn eq(&self, other: &Name) -> bool {
-        self.front == other.front && self.bytes() == other.bytes()
+        self.len == other.len
+            && self.front() == other.front()
+            && (self.len <= 8 || same_bytes(self, other))
     }
+}
+
+/// Whether names have the same bytes. Out of line, so that the numbers of their first bytes are read in
+/// one step.
+#[inline(never)]
+fn same_bytes(one: &Name, other: &Name) -> bool
+    ensures { result ≡ bytes_eq one.now other.now }
+{
+    one.bytes() == other.bytes()
 }
 
 impl Eq for Name {
@@ -112,10 +122,12 @@ impl Ord for Name {
     ghost matches_eq = { Prim.search (comparing, rules) };
 
     fn cmp(&self, other: &Name) -> Ordering {
-        if self.front != other.front {
-            return self.front.cmp(&other.front);
+        let (bytes, others) = (self.bytes(), other.bytes());
+        let (front, beside) = (self.front(), other.front());
+        if front != beside {
+            return front.cmp(&beside);
         }
-        self.bytes().cmp(other.bytes())
+        bytes.cmp(others)
     }
 }
 
@@ -145,55 +157,58 @@ fn four_bytes(a: u8, b: u8, c: u8, d: u8) -> u64
     ((u64::from(a) * 256 + u64::from(b)) * 256 + u64::from(c)) * 256 + u64::from(d)
 }
 
-fn is_part(byte: u8) -> bool
-    ensures { result ≡ is_name_byte byte }
-{
-    byte.is_ascii_lowercase() || byte.is_ascii_digit() || byte == b'_'
-}
-
-fn are_parts(bytes: &[u8]) -> bool
-    ensures { result ≡ list_all is_name_byte bytes.now }
-{
-    bytes.iter().all(|byte| is_part(*byte))
-}
-
-fn is_spelled(bytes: &[u8]) -> bool
-    ensures { result ≡ is_name bytes.now }
-{
-    match bytes {
-        [] => false,
-        [first, rest @ ..] => { bytes.len() <= 31 && first.is_ascii_lowercase() && are_parts(rest) }
-    }
-}
-
-fn is_first(byte: u8) -> bool
-    ensures { result ≡ is_first_byte byte }
-{
-    byte.is_ascii_lowercase() || byte.is_ascii_uppercase() || byte == b'_'
-}
-
-fn are_later(bytes: &[u8]) -> bool
-    ensures { result ≡ list_all is_later_byte bytes.now }
-{
-    bytes
-        .iter()
-        .all(|byte| is_first(*byte) || byte.is_ascii_digit())
-}
-
-fn is_spelled_long(bytes: &[u8]) -> bool
-    ensures { result ≡ is_long_name bytes.now }
-{
-    match bytes {
-        [] => false,
-        [first, rest @ ..] => { bytes.len() <= 63 && is_first(*first) && are_later(rest) }
-    }
-}
-
-fn is_spelled_in(format: Format, bytes: &[u8]) -> bool
-    ensures { result ≡ is_name_in format bytes.now }
+/// Whether a name of a format may begin with this byte.
+fn is_first_in(format: Format, byte: u8) -> bool
+    ensures { result ≡ is_first_in format byte }
 {
     match format {
-        Format::Three => is_spelled_long(bytes),
-        _ => is_spelled(bytes),
+        Format::Three => byte.is_ascii_lowercase() || byte.is_ascii_uppercase() || byte == b'_',
+        _ => byte.is_ascii_lowercase(),
     }
+}
+
+/// Whether a byte may stand in a name of a format.
+fn is_later_in(format: Format, byte: u8) -> bool
+    ensures { result ≡ is_later_in format byte }
+{
+    match format {
+        Format::Three => is_first_in(Format::Three, byte) || byte.is_ascii_digit(),
+        _ => byte.is_ascii_lowercase() || byte.is_ascii_digit() || byte == b'_',
+    }
+}
+
+/// The most bytes of a name of a format.
+fn most_bytes(format: Format) -> usize
+    ensures { result ≡ most_bytes format }
+{
+    match format {
+        Format::Three => 63,
+        _ => 31,
+    }
+}
+
+/// Whether bytes are as many as a name of a format may have, and begin like one.
+fn begins_name(format: Format, bytes: &[u8]) -> bool
+    ensures { result ≡ begins_name format bytes.now }
+{
+    match bytes {
+        [] => false,
+        [first, ..] => bytes.len() <= most_bytes(format) && is_first_in(format, *first),
+    }
+}
+
+/// Copies bytes to the front of others, up to the first that may not stand in a name of a format, and tells whether there is none.
+fn copy_parts(format: Format, bytes: &[u8], copy: &mut [u8; 63]) -> bool
+    requires { length bytes.now ≤ 63 }
+    ensures all { result ≡ list_all (is_later_in format) bytes.now }
+    ensures copied { result ≡ true → copy.new ≡ bytes.now ++ drop (length bytes.now) copy.old }
+{
+    for i in 0..bytes.len() {
+        let byte = bytes[i];
+        if !is_later_in(format, byte) {
+            return false;
+        }
+        copy[i] = byte;
+    }
+    true
 }

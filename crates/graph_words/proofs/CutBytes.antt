@@ -1,8 +1,8 @@
 -- Where a loop over bytes stops at the first byte that is sought, and what the pieces are there.
 use Rattle.std.proofs.Common.{◌≡◌, ℕ, zero, suc, ◌+◌, ◌-◌, ◌<◌, true, false, List, [], ◌∷◌, length, take, drop, get_or, sym, ◌∙◌, ap, refl, Bool, cond, length-drop, take_all, arith, ◌++◌, Bor}
-use Rattle.std.specs.Prelude.{◌==◌, Some, None}
+use Rattle.std.specs.Prelude.{◌==◌, Some, None, slice_set}
 use Rattle.basics.specs.Words.{contents}
-use Rattle.std.proofs.lemmas.List.{append_assoc, map-append}
+use Rattle.std.proofs.lemmas.List.{append_assoc, map-append, length-append, take_more_set}
 use Rattle.std.specs.List.{list_any, onto_first, position_or_len, after_first}
 use Rattle.std.proofs.lemmas.Bool.{ne_eqb, eq-eqb, or_from, or_left, or_right, or_parts, cond-false}
 use Rattle.std.proofs.lemmas.List.Sums.{position_or_len_is}
@@ -75,3 +75,21 @@ word_cut c ws more w rest back all e h k =
 pub last_word : LastWord
 last_word c ws more w all h k e =
     ap contents e ∙ (map-append (λ (x : Bor (List ℕ)). x.now) ws (w ∷ []) ∙ (ap (λ x. contents ws ++ x) (sym (one_piece c w.now h)) ∙ k))
+
+-- the same of words one by one, put at their places
+pub next_cut : (c : ℕ) (ws more : List (List ℕ)) (w rest back all : List ℕ) → more ≡ ws ++ w ∷ [] → IsCut c rest w back → ws ++ pieces c rest ≡ pieces c all → more ++ pieces c back ≡ pieces c all
+next_cut c ws more w rest back all e h k = ap (λ x. x ++ pieces c back) e ∙ (append_assoc ws (w ∷ []) (pieces c back) ∙ (ap (λ x. ws ++ x) (sym (pieces_cut c rest w back h)) ∙ k))
+
+pub last_cut : (c : ℕ) (ws more : List (List ℕ)) (w all : List ℕ) → list_any (λ b. b == c) w ≡ false → ws ++ pieces c w ≡ pieces c all → more ≡ ws ++ w ∷ [] → more ≡ pieces c all
+last_cut c ws more w all h k e = e ∙ (ap (λ x. ws ++ x) (sym (one_piece c w h)) ∙ k)
+
+-- a word put at a place that is there, and right behind the end
+pub placed_within : (ws more : List (Bor (List ℕ))) (place : ℕ) (w : Bor (List ℕ)) → place < length ws → more ≡ slice_set ws place w → contents (take (place + 1) more) ≡ contents (take place ws) ++ w.now ∷ []
+placed_within ws more place w l e = ap (λ xs. contents (take (place + 1) xs)) e ∙ (ap contents (take_more_set ws place w l) ∙ map-append (λ (x : Bor (List ℕ)). x.now) (take place ws) (w ∷ []))
+
+pub placed_behind : (ws more : List (Bor (List ℕ))) (place : ℕ) (w : Bor (List ℕ)) → place ≡ length ws → more ≡ ws ++ w ∷ [] → contents (take (place + 1) more) ≡ contents (take place ws) ++ w.now ∷ []
+placed_behind ws more place w l e =
+    let whole : length (ws ++ w ∷ []) ≡ place + 1 = omega (arith, length-append ws (w ∷ []), l) in
+    ap (λ xs. contents (take (place + 1) xs)) e
+    ∙ (ap contents (take_all (place + 1) (ws ++ w ∷ []) (omega (arith, whole)))
+    ∙ (map-append (λ (x : Bor (List ℕ)). x.now) ws (w ∷ []) ∙ ap (λ xs. contents xs ++ w.now ∷ []) (sym (take_all place ws (omega (arith, l))))))

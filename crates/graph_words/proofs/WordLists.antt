@@ -55,3 +55,8 @@ first_byte (b ∷ w) d h = refl
 pub first_word : (ws : List (Bor (List ℕ))) (d : Bor (List ℕ)) → 1 ≤ length ws → (get_or ws 0 d).now ∷ drop 1 (contents ws) ≡ contents ws
 first_word [] d h = absurd (omega arith)
 first_word (w ∷ ws) d h = refl
+
+pub two_words : (ws : List (Bor (List ℕ))) (d e : Bor (List ℕ)) → 2 ≤ length ws → (get_or ws 0 d).now ∷ (get_or ws 1 e).now ∷ drop 2 (contents ws) ≡ contents ws
+two_words [] d e h = absurd (omega arith)
+two_words (w ∷ []) d e h = absurd (omega arith)
+two_words (v ∷ w ∷ ws) d e h = refl

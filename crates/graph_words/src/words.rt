@@ -1,11 +1,12 @@
 //! Words of a line.
 
 ghost use Rattle.basics.specs.Words.{contents};
-ghost use Rattle.std.specs.Prelude.{◌≡◌, ◌≤◌, ℕ, List, ◌∷◌, length, drop, map, ◌==◌, find, OnOk, IfOk, IfSome, MatchOption, [], slice_index_or, option_map, option_copied};
+ghost use Rattle.std.specs.Prelude.{◌≡◌, ◌≤◌, ◌<◌, ◌+◌, ◌++◌, take, ℕ, List, ◌∷◌, length, drop, map, ◌==◌, find, OnOk, IfOk, IfSome, MatchOption, [], slice_index_or, option_map, option_copied, true, codes};
 ghost use Rattle.graph_terms.specs.Format.{has_since};
 ghost use Rattle.graph_words.specs.Words.{pieces};
 ghost use Rattle.graph_words.specs.Draft.{Placed, form_of, is_own_word, fits_behind, is_of_form, same_word, has_events, has_on, on_events, has_room, as_place, words_in};
 ghost use Rattle.std.specs.List.{list_any, list_all, starts_with};
+ghost use Rattle.std.specs.Str.{bytes_eq};
 
 use crate::cuts::cut;
 use graph_terms::format::Format;
@@ -13,6 +14,40 @@ use graph_terms::table::{KINDS, Kind, Place};
 use index_spaces::NoMemory;
 use index_spaces::room::push;
 use std::alloc::Global;
+
+/// Puts a word at a place that is in the list or right behind its end.
+fn put<'a>(words: &mut Vec<&'a [u8]>, place: usize, word: &'a [u8]) -> Result<(), NoMemory>
+    requires { place ≤ length words.old.items }
+    ensures words { OnOk result (contents (take (place + 1) words.new.items) ≡ contents (take place words.old.items) ++ word.now ∷ []) }
+    ensures there { OnOk result (place < length words.new.items) }
+{
+    if place < words.len() {
+        words[place] = word;
+        return Ok(());
+    }
+    push(words, word)
+}
+
+/// Puts the pieces of bytes between the separators into the first places of a list, and tells how many they are. What
+/// stands behind them is left there, so that a list which is kept from line to line seldom grows.
+pub fn cut_into<'a>(
+    words: &mut Vec<&'a [u8]>,
+    bytes: &'a [u8],
+    separator: u8,
+) -> Result<usize, NoMemory>
+    ensures count { IfOk result (λ n. n ≤ length words.new.items) }
+    ensures pieces { IfOk result (λ n. contents (take n words.new.items) ≡ pieces separator bytes.now) }
+{
+    let mut rest = bytes;
+    let mut count = 0;
+    while let Some((word, after)) = cut(rest, separator) {
+        put(words, count, word)?;
+        rest = after;
+        count += 1;
+    }
+    put(words, count, rest)?;
+    Ok(count + 1)
+}
 
 /// Puts the pieces of bytes between the separators into a list, in place of what it held.
 pub fn split_into<'a>(
@@ -29,6 +64,21 @@ pub fn split_into<'a>(
         rest = after;
     }
     push(words, rest)
+}
+
+/// Whether two words are one. Words are short, so their bytes are compared one by one.
+pub fn is_same(word: &[u8], other: &[u8]) -> bool
+    ensures { result ≡ bytes_eq word.now other.now }
+{
+    if word.len() != other.len() {
+        return false;
+    }
+    for i in 0..word.len() {
+        if word[i] != other[i] {
+            return false;
+        }
+    }
+    true
 }
 
 /// The pieces of bytes between the separators.
@@ -65,7 +115,8 @@ fn begins(words: &[&[u8]], fixed: &[&[u8]]) -> bool
     match (words, fixed) {
         (_, []) => true,
         ([], _) => false,
-        ([word, rest @ ..], [first, others @ ..]) => first == word && all_follow(rest, others),
+        ([word, rest @ ..], [first, others @ ..]) => is_same(first, word)
+            && all_follow(rest, others),
     }
 }
 
@@ -104,9 +155,7 @@ pub fn has_on(format: Format, kind: Kind, rest: &[&[u8]]) -> bool
     ensures { result ≡ has_on format (form_of kind) (contents rest.now) }
 {
     let places = place_count(kind);
-    kind.takes_on()
-        && has_events(format, places, rest.len())
-        && word(rest, places) == b"on".as_slice()
+    kind.takes_on() && has_events(format, places, rest.len()) && is_same(word(rest, places), b"on")
 }
 
 /// The words of the events behind `on`.
@@ -118,6 +167,18 @@ pub fn on_events<'a, 'b>(format: Format, kind: Kind, rest: &'b [&'a [u8]]) -> &'
     } else {
         &[]
     }
+}
+
+/// The words of the events behind `on`, where there is room for the words of a kind.
+pub fn room_events<'a, 'b>(format: Format, kind: Kind, rest: &'b [&'a [u8]]) -> &'b [&'a [u8]]
+    requires { has_room format (form_of kind) (contents rest.now) ≡ true }
+    ensures { contents result.now ≡ on_events format (form_of kind) (contents rest.now) }
+{
+    let places = place_count(kind);
+    if rest.len() == places {
+        return &[];
+    }
+    behind(rest, places + 1)
 }
 
 /// Whether a format has a kind.
@@ -132,8 +193,8 @@ fn is_own_word(place: Place, word: &[u8]) -> bool
     ensures { result ≡ is_own_word (as_place place) word.now }
 {
     match place {
-        Place::Times => word == b"times".as_slice(),
-        Place::Shared => word == b"shared".as_slice(),
+        Place::Times => is_same(word, b"times"),
+        Place::Shared => is_same(word, b"shared"),
         _ => true,
     }
 }
@@ -185,6 +246,8 @@ fn kinds_with(first: u8) -> &'static [Kind]
         ],
         b'c' => &[Kind::Cancel, Kind::Copy],
         b'f' => &[Kind::Fill],
+        // Merges, which are of no kind.
+        b'm' => &[],
         b'p' => &[Kind::Phase],
         b'r' => &[
             Kind::Release,
@@ -220,6 +283,48 @@ fn kinds_of_word(word: &[u8]) -> &'static [Kind]
     }
 }
 
+/// The tasks whose second word begins with this byte, and all kinds where none does.
+fn tasks_with(first: u8) -> &'static [Kind]
+    ensures { (format : Format) (word : List ℕ) (rest : List (List ℕ))
+        → find (λ k. is_of_form format (codes "task" ∷ (first ∷ word) ∷ rest) (form_of k)) result.now
+        ≡ find (λ k. is_of_form format (codes "task" ∷ (first ∷ word) ∷ rest) (form_of k)) KINDS }
+{
+    match first {
+        b'a' => &[Kind::Axpy],
+        b'd' => &[Kind::Dot],
+        b'e' => &[Kind::Expect],
+        b'g' => &[Kind::Gather],
+        b'h' => &[Kind::Hist],
+        b'i' => &[Kind::Iota],
+        b's' => &[Kind::Stencil, Kind::Scan],
+        _ => &KINDS,
+    }
+}
+
+/// The kinds of which one can be that of a task with this second word.
+fn tasks_of_word(word: &[u8]) -> &'static [Kind]
+    ensures { (format : Format) (rest : List (List ℕ))
+        → find (λ k. is_of_form format (codes "task" ∷ word.now ∷ rest) (form_of k)) result.now
+        ≡ find (λ k. is_of_form format (codes "task" ∷ word.now ∷ rest) (form_of k)) KINDS }
+{
+    match word {
+        [] => &KINDS,
+        [first, ..] => tasks_with(*first),
+    }
+}
+
+/// The kinds of which one can be that of a line with these first two words. Most kinds differ by the first.
+fn kinds_of_words(word: &[u8], second: &[u8]) -> &'static [Kind]
+    ensures { (format : Format) (rest : List (List ℕ))
+        → find (λ k. is_of_form format (word.now ∷ second.now ∷ rest) (form_of k)) result.now
+        ≡ find (λ k. is_of_form format (word.now ∷ second.now ∷ rest) (form_of k)) KINDS }
+{
+    if is_same(word, b"task") {
+        return tasks_of_word(second);
+    }
+    kinds_of_word(word)
+}
+
 /// The first of these kinds that is that of the words behind the sign.
 fn kind_among(format: Format, words: &[&[u8]], kinds: &[Kind]) -> Option<Kind>
     ensures { result ≡ find (λ k. is_of_form format (contents words.now) (form_of k)) kinds.now }
@@ -236,6 +341,7 @@ pub fn kind_of(format: Format, words: &[&[u8]]) -> Option<Kind>
 {
     match words {
         [] => None,
-        [word, ..] => kind_among(format, words, kinds_of_word(word)),
+        [word] => kind_among(format, words, kinds_of_word(word)),
+        [word, second, ..] => kind_among(format, words, kinds_of_words(word, second)),
     }
 }

@@ -23,11 +23,11 @@ pub(crate) struct StealRight {
 /// The least room of a deque.
 const LEAST_ROOM: u64 = 64;
 
-/// The most room of a deque.
-const MOST_ROOM: u64 = 8_192;
+/// The most room of a deque. Its pages are touched as it is made, so that it costs time where it is not used.
+const MOST_ROOM: u64 = 1_024;
 
 /// For how many hints each deque has room: one for each number below the bound, but not fewer than 64 and
-/// not more than 8,192, as many as the lines of a run that are issued and have not ended.
+/// not more than 1,024, several times as many as the lines that a worker has issued ahead.
 pub(crate) fn room_for(lines: u32) -> u64
     ensures { result ≡ room_for lines }
 {

@@ -56,7 +56,7 @@ impl Hints for HomeHints {
     /// Puts the number in at the back of its own deque. It is dropped where it is not below the bound, where
     /// this part has put in 2^60, and where no free slot was found. That comes only once it has put in as
     /// many as its deque has room for: one for each number below the bound, but not fewer than 64 and not
-    /// more than 8,192.
+    /// more than 1,024.
     fn push<R: Wait>(&mut self, _rt: &R, line: u32)
         ensures dropped { (self.old.lines ≤ line) ⊎ (2 ^ 60 ≤ self.old.pushes) → self.new ≡ self.old }
         ensures put { line < self.old.lines → self.old.pushes < room_for self.old.lines →

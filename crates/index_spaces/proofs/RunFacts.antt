@@ -8,6 +8,7 @@ use Rattle.std.proofs.lemmas.List.{get_or_default, get_or_append_left, get_or-ap
 use Rattle.std.proofs.lemmas.List.FromFn.{length-map-range_with_len, get_or-map-range_with_len}
 use Rattle.index_spaces.specs.Space.{interval_has, has_point, interval_points, space_size, rank, IsSpace, point_at}
 use Rattle.index_spaces.specs.Column.{ColumnValue, cell_of}
+use Rattle.index_spaces.specs.declared.column.ColumnParts.{ColumnParts}
 use Rattle.index_spaces.specs.Run.{interval_size, IsRun, IsRunAt, WritesRun, written_over}
 use Rattle.index_spaces.specs.Laws.{RunsOfSpaces, RunsAreWritten, IntervalsAscend, CellsAreWritten, EarlierPoints, SpacesAreWritten, CutHasLength, WrittenRunsKeepLength}
 use Rattle.index_spaces.proofs.PointFacts.{rank-at, runs_up, ends_below, has_point-at, has_point-between, interval_has-parts}
@@ -197,11 +198,17 @@ stored v s i start n now ys value at full e size short values =
     rw e (rw (with_items_is v (written_over v.items start n ys) whole) (run_written (record { space = s; cells = v.items }) i start n ys value at full size short values))
 
 -- a write of as many cells as the part had
-pub stored_part : {Z : Type 0} (v : Vec ℕ Z) (s : List (ℕ × ℕ)) (i : ℕ × ℕ) (start : ℕ) (now ys : List ℕ) (value : ℕ → ℕ) → IsRunAt s i start → length v.items ≡ space_size s → now ≡ v.items → i.0 ≤ i.1 →
+stored_part : {Z : Type 0} (v : Vec ℕ Z) (s : List (ℕ × ℕ)) (i : ℕ × ℕ) (start : ℕ) (now ys : List ℕ) (value : ℕ → ℕ) → IsRunAt s i start → length v.items ≡ space_size s → now ≡ v.items → i.0 ≤ i.1 →
     length ys ≡ length (take (run_count i start) (drop start now)) → ((p : ℕ) → IsTrue (interval_has i p) → get_or ys (p - i.0) 0 ≡ value p) →
     WritesRun (record { space = s; cells = v.items }) (record { space = s; cells = (with_items v (written_over now start (run_count i start) ys)).items }) i value
 stored_part v s i start now ys value at full e up short values =
     stored v s i start (run_count i start) now ys value at full e (omega arith) (short ∙ part_length s i start v.items now at full e up) values
+
+-- the same of the cells of what a column is made of, which was lent
+pub stored_in : (parts lent : ColumnParts) → lent ≡ parts → (i : ℕ × ℕ) (start : ℕ) (now ys : List ℕ) (value : ℕ → ℕ) → IsRunAt parts.space i start → length parts.cells.items ≡ space_size parts.space → now ≡ parts.cells.items → i.0 ≤ i.1 →
+    length ys ≡ length (take (run_count i start) (drop start now)) → ((p : ℕ) → IsTrue (interval_has i p) → get_or ys (p - i.0) 0 ≡ value p) →
+    WritesRun (record { space = parts.space; cells = parts.cells.items }) (record { space = lent.space; cells = (with_items lent.cells (written_over now start (run_count i start) ys)).items }) i value
+stored_in parts lent same i start now ys value at full e up short values = rw same (stored_part parts.cells parts.space i start now ys value at full e up short values)
 
 pub cells_are_written : CellsAreWritten
 cells_are_written c p q v a full has_p has_q =

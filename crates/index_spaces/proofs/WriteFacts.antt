@@ -16,7 +16,7 @@ all_written old new s n value h w = rw (take_all n s h) at w
 
 -- a column that was let go of and is held again
 pub held_again : HeldAgain
-held_again old mid new c x out back = record { here = back.here; others = λ k n. back.others k n ∙ out.others k n }
+held_again old mid new c x out back = record { here = back.here; others = λ k n. back.others k n ∙ out.others k n; lendings = λ k n. back.lendings k n ∙ out.lendings k n }
 
 pub holds_over : (o : Option ColumnValue) (P : ColumnValue → Type 0) → HoldsOfHeld o P
 holds_over o P x e h = rw e at h

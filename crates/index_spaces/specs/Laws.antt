@@ -7,7 +7,7 @@ use Rattle.index_spaces.specs.Space.{interval_has, has_point, points, space_size
 use Rattle.index_spaces.specs.Column.{ColumnValue, cell_of, with_cell}
 use Rattle.index_spaces.specs.Run.{interval_size, IsRun, IsRunAt, WritesRun, WritesPoints, written_over}
 use Rattle.index_spaces.specs.SpaceFault.{space_fault_in}
-use Rattle.index_spaces.specs.Held.{HoldsOtherwise}
+use Rattle.index_spaces.specs.Held.{HeldList, HoldsOtherwise}
 use Rattle.std.specs.Option.{IsSomeAnd}
 use Rattle.std.specs.declared.vec.Vec.{Vec}
 
@@ -84,7 +84,7 @@ SpacesAreWritten = (old now new : ColumnValue) (s : List (ℕ × ℕ)) (k : ℕ)
 
 -- a column that was let go of and is held again is held as if it had been all the time
 abbrev pub HeldAgain : Type 0
-HeldAgain = (old mid new : List (ℕ × ColumnValue)) (c : ℕ) (x : ColumnValue) → HoldsOtherwise old mid c None → HoldsOtherwise mid new c (Some x) →
+HeldAgain = (old mid new : HeldList) (c : ℕ) (x : ColumnValue) → HoldsOtherwise old mid c None → HoldsOtherwise mid new c (Some x) →
     HoldsOtherwise old new c (Some x)
 
 -- what holds of a column that is held holds of the one that it is

@@ -3,5 +3,7 @@ pub mod SpaceFault
 pub mod Counted
 pub mod Column
 pub mod Run
+pub mod Shares
 pub mod Held
+pub mod Places
 pub mod Laws

@@ -6,6 +6,7 @@ pub mod held;
 pub mod laws;
 pub mod limits;
 pub mod room;
+pub mod shares;
 pub mod space;
 
 /// How two values become one.

@@ -61,12 +61,6 @@ run_part runs there over s k start cells now a within h at full e =
     let up : i.0 ≤ i.1 = (runs s there k (0, 0) a within h).ascends in
     record { up = up; size = omega arith; cut = part_length over i start cells now at full e up; end = ends_fit s k a h }
 
--- a column is made of what was written
-pub written_parts : (old new : ColumnValue) (over : List (ℕ × ℕ)) (cells : List ℕ) (s : List (ℕ × ℕ)) (value : ℕ → ℕ) → new.space ≡ over → new.cells ≡ cells → WritesPoints old (over_run over cells) s value → WritesPoints old new s value
-written_parts old new over cells s value e f w =
-    let cell : (p : ℕ) → cell_of new p ≡ cell_of (over_run over cells) p = λ p. ap (λ t. get_or new.cells (rank t p) 0) e ∙ ap (λ xs. get_or xs (rank over p) 0) f in
-    record { space = e ∙ w.space; inside = λ p h. cell p ∙ w.inside p h; outside = λ p h n. cell p ∙ w.outside p h n }
-
 -- a write of values is one of other values that are the same at its points
 pub written_as : (old new : ColumnValue) (s : List (ℕ × ℕ)) (value other : ℕ → ℕ) → WritesPoints old new s value → ((p : ℕ) → has_point s p ≡ true → value p ≡ other p) → WritesPoints old new s other
 written_as old new s value other w same = record { space = w.space; inside = λ p h. w.inside p h ∙ same p h; outside = w.outside }

@@ -10,7 +10,7 @@ ghost use Rattle.kernel_table.specs.Kernels.{HoldsOverSpace, OverSpace, Makes};
 use crate::source::source;
 use crate::walk::{RunStep, run_of, set_each, write_runs};
 use graph_model::graph::Graph;
-use index_spaces::column::Column;
+use index_spaces::column::{Column, ColumnView};
 use index_spaces::held::Held;
 use index_spaces::space::Space;
 
@@ -34,17 +34,17 @@ pub(crate) fn axpy_column(
 /// Adds a multiple of the cell of a column.
 #[derive(Drop)]
 struct AddScaled<'a> {
-    from: &'a Column,
+    from: ColumnView<'a>,
     factor: u64,
 }
 
 impl<'a> RunStep for AddScaled<'a> {
-    ghost value = { λ step space p cell. wrapped (cell + wrapped (step.factor * cell_of step.from.now p)) };
+    ghost value = { λ step space p cell. wrapped (cell + wrapped (step.factor * cell_of step.from p)) };
 
-    ghost IsReady = { λ step space k. IsWithin space step.from.now.space };
+    ghost IsReady = { λ step space k. IsWithin space step.from.space };
 
     fn write(&mut self, space: &Space, k: usize, cells: &mut [u64]) {
-        let values = run_of(self.from, space, k);
+        let values = run_of(&self.from, space, k);
         let factor = self.factor;
         set_each(
             cells,

@@ -11,7 +11,7 @@ ghost use Rattle.kernel_table.specs.Kernels.{HoldsOverSpace, OverSpace, Makes};
 use crate::source::source;
 use crate::walk::{RunStep, set_each, write_runs};
 use graph_model::graph::Graph;
-use index_spaces::column::Column;
+use index_spaces::column::{Column, ColumnView};
 use index_spaces::held::Held;
 use index_spaces::laws::{points_are_listed, runs_of_spaces};
 use index_spaces::space::Space;
@@ -34,11 +34,11 @@ pub(crate) fn dot_column(
     points_are_listed();
     let one = source(held, x);
     let other = source(held, y);
-    let value = dot_points(one, other, graph.space(s));
+    let value = dot_points(&one, &other, graph.space(s));
     write_runs(before, graph.space(t), &mut AddValue { value })
 }
 
-pub(crate) fn dot_points(x: &Column, y: &Column, space: &Space) -> u64
+pub(crate) fn dot_points(x: &ColumnView<'_>, y: &ColumnView<'_>, space: &Space) -> u64
     requires one { IsWithin space.now x.now.space }
     requires other { IsWithin space.now y.now.space }
     ensures { result ≡ wrapped_sum (λ p. cell_of x.now p * cell_of y.now p) (points space.now) }

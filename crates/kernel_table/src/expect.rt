@@ -12,7 +12,7 @@ use crate::source::source;
 use graph_meaning::held_cells::{cells_by_point, seen_cells};
 use graph_model::graph::Graph;
 use graph_terms::outcome::Verdict;
-use index_spaces::column::Column;
+use index_spaces::column::ColumnView;
 use index_spaces::held::Held;
 use index_spaces::laws::{points_are_listed, runs_of_spaces};
 use index_spaces::space::Space;
@@ -27,7 +27,7 @@ pub(crate) fn run_expect(graph: &Graph, held: &Held, x: u32, s: u32, low: u64, h
     seen_cells();
     points_are_listed();
     let space = graph.space(s);
-    verdict_of(points_within(source(held, x), space, low, high))
+    verdict_of(points_within(&source(held, x), space, low, high))
 }
 
 fn verdict_of(fine: bool) -> Verdict
@@ -36,7 +36,7 @@ fn verdict_of(fine: bool) -> Verdict
     if fine { Verdict::Fine } else { Verdict::Fault }
 }
 
-pub(crate) fn points_within(x: &Column, space: &Space, low: u64, high: u64) -> bool
+pub(crate) fn points_within(x: &ColumnView<'_>, space: &Space, low: u64, high: u64) -> bool
     requires { IsWithin space.now x.now.space }
     ensures { result ≡ all_within (cell_of x.now) low high (points space.now) }
 {

@@ -9,7 +9,7 @@ ghost use Rattle.kernel_table.specs.Kernels.{HoldsOverSpace, OverSpace, Makes};
 use crate::source::source;
 use crate::walk::{RunStep, run_of, write_runs};
 use graph_model::graph::Graph;
-use index_spaces::column::Column;
+use index_spaces::column::{Column, ColumnView};
 use index_spaces::held::Held;
 use index_spaces::laws::{rank_of_point, runs_of_spaces};
 use index_spaces::space::Space;
@@ -50,25 +50,30 @@ pub(crate) fn gather_column(
 /// Sets each cell to the one that a number picks.
 #[derive(Drop)]
 struct PickedCells<'a> {
-    numbers: &'a Column,
-    from: &'a Column,
+    numbers: ColumnView<'a>,
+    from: ColumnView<'a>,
     picks: &'a Space,
 }
 
 impl<'a> RunStep for PickedCells<'a> {
     ghost value = { λ step space p cell.
-        cell_of step.from.now (point_at step.picks.now (cell_of step.numbers.now p % space_size step.picks.now)) };
+        cell_of step.from (point_at step.picks.now (cell_of step.numbers p % space_size step.picks.now)) };
 
-    ghost IsReady = { λ step space k. IsWithin space step.numbers.now.space × IsWithin step.picks.now step.from.now.space };
+    ghost IsReady = { λ step space k. IsWithin space step.numbers.space × IsWithin step.picks.now step.from.space };
 
     fn write(&mut self, space: &Space, k: usize, cells: &mut [u64]) {
-        pick_all(cells, run_of(self.numbers, space, k), self.from, self.picks);
+        pick_all(
+            cells,
+            run_of(&self.numbers, space, k),
+            &self.from,
+            self.picks,
+        );
     }
 }
 
 /// Writes for each number the cell that it picks: from side by side cells where the space is one
 /// interval, and by look-ups otherwise.
-fn pick_all(cells: &mut [u64], numbers: &[u64], y: &Column, picks: &Space)
+fn pick_all(cells: &mut [u64], numbers: &[u64], y: &ColumnView<'_>, picks: &Space)
     requires size { length cells.old ≡ length numbers.now }
     requires within { IsWithin picks.now y.now.space }
     ensures { (k : ℕ) → k < length cells.old → slice_index cells.new k
@@ -95,7 +100,7 @@ fn pick_from(cells: &mut [u64], numbers: &[u64], values: &[u64])
 }
 
 /// Writes for each number the cell that it picks by a look-up.
-fn pick_each(cells: &mut [u64], numbers: &[u64], y: &Column, picks: &Space)
+fn pick_each(cells: &mut [u64], numbers: &[u64], y: &ColumnView<'_>, picks: &Space)
     requires size { length cells.old ≡ length numbers.now }
     requires within { IsWithin picks.now y.now.space }
     ensures { (k : ℕ) → k < length cells.old → slice_index cells.new k
@@ -107,7 +112,7 @@ fn pick_each(cells: &mut [u64], numbers: &[u64], y: &Column, picks: &Space)
 }
 
 /// The cell of the point whose rank is a number modulo the number of points.
-fn pick(number: u64, y: &Column, picks: &Space) -> u64
+fn pick(number: u64, y: &ColumnView<'_>, picks: &Space) -> u64
     requires { IsWithin picks.now y.now.space }
     ensures { result ≡ cell_of y.now (point_at picks.now (number % space_size picks.now)) }
 {

@@ -10,7 +10,7 @@ ghost use Rattle.kernel_table.specs.Kernels.{HoldsOverSpace, OverSpace, Makes, c
 
 use crate::source::source;
 use graph_model::graph::Graph;
-use index_spaces::column::Column;
+use index_spaces::column::{Column, ColumnParts, ColumnView};
 use index_spaces::held::Held;
 use index_spaces::laws::{
     cells_are_written, point_of_rank, points_are_listed, rank_of_point, runs_of_spaces,
@@ -34,22 +34,23 @@ pub(crate) fn hist_column(
     points_are_listed();
     let bins = graph.space(t);
     let _ = bins.intervals();
-    hist_points(source(held, x), before, graph.space(s), bins)
+    hist_points(&source(held, x), before, graph.space(s), bins)
 }
 
-fn hist_points(x: &Column, y: Column, space: &Space, bins: &Space) -> Column
+fn hist_points(x: &ColumnView<'_>, y: Column, space: &Space, bins: &Space) -> Column
     requires here { IsWithin bins.now y.space }
     requires there { IsWithin space.now x.now.space }
     ensures { WritesPoints y result bins.now (λ q. wrapped (cell_of y q
         + count_by (λ p. cell_of x.now p % space_size bins.now == rank bins.now q) (points space.now))) }
 {
-    let (over, mut cells) = y.into_parts();
-    hist_cells(x, &mut cells, &over, space, bins);
-    Column::from_parts(over, cells)
+    let mut parts = y.into_parts();
+    let ColumnParts { space: over, cells } = &mut *parts;
+    hist_cells(x, cells, over, space, bins);
+    Column::from_parts(parts)
 }
 
 /// Counts the numbers of a column over `space` in the cells over `over`.
-fn hist_cells(x: &Column, cells: &mut [u64], over: &Space, space: &Space, bins: &Space)
+fn hist_cells(x: &ColumnView<'_>, cells: &mut [u64], over: &Space, space: &Space, bins: &Space)
     requires full { length cells.old ≡ space_size over.now }
     requires here { IsWithin bins.now over.now }
     requires there { IsWithin space.now x.now.space }

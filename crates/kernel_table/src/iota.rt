@@ -2,7 +2,7 @@
 
 ghost use Rattle.std.specs.Prelude.{ℕ, ◌≡◌, ◌+◌, ◌<◌, List, length, slice_index};
 ghost use Rattle.index_spaces.specs.Space.{rank};
-ghost use Rattle.index_spaces.specs.Column.{ColumnValue};
+ghost use Rattle.index_spaces.specs.Held.{HeldList};
 ghost use Rattle.graph_terms.specs.declared.table.Kernel.TheVariants.{Iota};
 ghost use Rattle.graph_meaning.specs.Effect.{wrapped};
 ghost use Rattle.kernel_table.specs.Kernels.{OverSpace, Makes};
@@ -16,7 +16,7 @@ use index_spaces::space::Space;
 /// Sets each cell over a space to the value and its point's rank.
 pub(crate) fn iota_column(graph: &Graph, before: Column, s: u32, value: u64) -> Column
     requires { OverSpace graph.now before s }
-    ensures { (held : List (ℕ × ColumnValue)) (x : ℕ) → Makes graph.now held before result (Iota x s value) }
+    ensures { (held : HeldList) (x : ℕ) → Makes graph.now held before result (Iota x s value) }
 {
     write_runs(before, graph.space(s), &mut RanksFrom { value })
 }

@@ -10,7 +10,7 @@ ghost use Rattle.kernel_table.specs.Kernels.{HoldsOverSpace, OverSpace, Makes};
 use crate::source::source;
 use crate::walk::{RunStep, run_of, write_runs};
 use graph_model::graph::Graph;
-use index_spaces::column::Column;
+use index_spaces::column::{Column, ColumnView};
 use index_spaces::held::Held;
 use index_spaces::laws::points_are_listed;
 use index_spaces::space::Space;
@@ -29,19 +29,19 @@ pub(crate) fn scan_column(graph: &Graph, held: &Held, before: Column, x: u32, s:
 /// Sets each cell to the sum of a column's cells up to its point.
 #[derive(Drop)]
 struct RunningSums<'a> {
-    from: &'a Column,
+    from: ColumnView<'a>,
     so_far: u64,
 }
 
 impl<'a> RunStep for RunningSums<'a> {
-    ghost value = { λ step space p cell. wrapped_sum (cell_of step.from.now) (filter (λ q. nat_le q p) (points space)) };
+    ghost value = { λ step space p cell. wrapped_sum (cell_of step.from) (filter (λ q. nat_le q p) (points space)) };
 
-    ghost IsReady = { λ step space k. IsWithin space step.from.now.space
-        × (step.so_far ≡ wrapped_sum (cell_of step.from.now) (points (take k space))) };
+    ghost IsReady = { λ step space k. IsWithin space step.from.space
+        × (step.so_far ≡ wrapped_sum (cell_of step.from) (points (take k space))) };
 
     fn write(&mut self, space: &Space, k: usize, cells: &mut [u64]) {
         let _ = space.intervals();
-        let last = sum_along(cells, run_of(self.from, space, k), self.so_far);
+        let last = sum_along(cells, run_of(&self.from, space, k), self.so_far);
         self.so_far = last;
     }
 }

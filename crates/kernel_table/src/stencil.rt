@@ -11,7 +11,7 @@ ghost use Rattle.kernel_table.specs.Kernels.{HoldsOverSpace, OverSpace, Makes};
 use crate::source::source;
 use crate::walk::{RunStep, write_runs};
 use graph_model::graph::Graph;
-use index_spaces::column::Column;
+use index_spaces::column::{Column, ColumnView};
 use index_spaces::held::Held;
 use index_spaces::space::Space;
 
@@ -37,22 +37,22 @@ pub(crate) fn stencil_column(
 /// Sets each cell to the sum of a column's cells around its point.
 #[derive(Drop)]
 struct WindowSums<'a> {
-    from: &'a Column,
+    from: ColumnView<'a>,
     read: &'a Space,
 }
 
 impl<'a> RunStep for WindowSums<'a> {
-    ghost value = { λ step space p cell. wrapped_sum (cell_of step.from.now) (filter (has_point step.read.now) (around p)) };
+    ghost value = { λ step space p cell. wrapped_sum (cell_of step.from) (filter (has_point step.read.now) (around p)) };
 
-    ghost IsReady = { λ step space k. IsWithin step.read.now step.from.now.space };
+    ghost IsReady = { λ step space k. IsWithin step.read.now step.from.space };
 
     fn write(&mut self, space: &Space, k: usize, cells: &mut [u64]) {
-        sum_windows(cells, space.intervals()[k].0, self.from, self.read);
+        sum_windows(cells, space.intervals()[k].0, &self.from, self.read);
     }
 }
 
 /// Writes the sums for the points from the first on.
-fn sum_windows(cells: &mut [u64], first: u32, x: &Column, read: &Space)
+fn sum_windows(cells: &mut [u64], first: u32, x: &ColumnView<'_>, read: &Space)
     requires fits { first + length cells.old ≤ 2 ^ 32 }
     requires within { IsWithin read.now x.now.space }
     ensures { (k : ℕ) → k < length cells.old → slice_index cells.new k
@@ -81,7 +81,7 @@ fn has_run(space: &Space, first: u32, count: usize) -> bool
 
 /// Writes the sums for the points of a run of the space that is read: the inner ones from side by
 /// side cells, without a look-up each.
-fn sum_run(cells: &mut [u64], first: u32, x: &Column, read: &Space)
+fn sum_run(cells: &mut [u64], first: u32, x: &ColumnView<'_>, read: &Space)
     requires some { 2 < length cells.old }
     requires fits { first + length cells.old ≤ 2 ^ 32 }
     requires run { IsRun read.now (first, first + (length cells.old - 1)) }
@@ -110,7 +110,7 @@ fn sum_neighbors(cells: &mut [u64], values: &[u64])
 }
 
 /// Writes the sums for the points from the first on, each by look-ups.
-fn sum_each(cells: &mut [u64], first: u32, x: &Column, read: &Space)
+fn sum_each(cells: &mut [u64], first: u32, x: &ColumnView<'_>, read: &Space)
     requires fits { first + length cells.old ≤ 2 ^ 32 }
     requires within { IsWithin read.now x.now.space }
     ensures { (k : ℕ) → k < length cells.old → slice_index cells.new k
@@ -123,7 +123,7 @@ fn sum_each(cells: &mut [u64], first: u32, x: &Column, read: &Space)
 
 /// The sum of the cells at a point and the two beside it, modulo 2^64, as far as these lie in the
 /// space.
-fn window(x: &Column, read: &Space, p: u32) -> u64
+fn window(x: &ColumnView<'_>, read: &Space, p: u32) -> u64
     requires { IsWithin read.now x.now.space }
     ensures { result ≡ wrapped_sum (cell_of x.now) (filter (has_point read.now) (around p)) }
 {
@@ -139,7 +139,7 @@ fn window(x: &Column, read: &Space, p: u32) -> u64
 }
 
 /// The cell of a point that is in the space, and 0 for any other number.
-fn cell_or_zero(x: &Column, read: &Space, q: u64) -> u64
+fn cell_or_zero(x: &ColumnView<'_>, read: &Space, q: u64) -> u64
     requires { IsWithin read.now x.now.space }
     ensures { result ≡ cond (has_point read.now q) (cell_of x.now q) 0 }
 {
@@ -150,7 +150,7 @@ fn cell_or_zero(x: &Column, read: &Space, q: u64) -> u64
     }
 }
 
-fn cell_of_point(x: &Column, read: &Space, p: u32) -> u64
+fn cell_of_point(x: &ColumnView<'_>, read: &Space, p: u32) -> u64
     requires { IsWithin read.now x.now.space }
     ensures { result ≡ cond (has_point read.now p) (cell_of x.now p) 0 }
 {

@@ -1,12 +1,13 @@
 //! The walk over the runs of a space that writes a column.
 
 ghost use Rattle.std.specs.Prelude.{◌≡◌, ℕ, ◌+◌, ◌<◌, ◌≤◌, ◌^◌, List, length, map, slice_index};
-ghost use Rattle.index_spaces.specs.Space.{interval_points, IsSpace, IsWithin};
+ghost use Rattle.index_spaces.specs.Space.{interval_points, space_size, IsSpace, IsWithin};
 ghost use Rattle.index_spaces.specs.Column.{cell_of};
 ghost use Rattle.index_spaces.specs.Laws.{pair_at};
 ghost use Rattle.index_spaces.specs.Run.{interval_size, WritesPoints};
+ghost use Rattle.kernel_table.specs.Kernels.{column_over};
 
-use index_spaces::column::Column;
+use index_spaces::column::{Column, ColumnParts, ColumnView};
 use index_spaces::laws::{earlier_points, runs_are_written, runs_of_spaces, spaces_are_written};
 use index_spaces::space::Space;
 
@@ -37,22 +38,36 @@ pub(crate) fn write_runs<S: RunStep>(column: Column, space: &Space, step: &mut S
     ensures is_space { IsSpace space.now }
     ensures written { WritesPoints column result space.now (λ p. S.value step.old space.now p (cell_of column p)) }
 {
+    let _ = space.intervals();
+    let mut parts = column.into_parts();
+    let ColumnParts { space: over, cells } = &mut *parts;
+    write_cells(over, cells, space, step);
+    Column::from_parts(parts)
+}
+
+/// Writes the cells over `over` at the points of a space, run by run.
+fn write_cells<S: RunStep>(over: &Space, cells: &mut Vec<u64>, space: &Space, step: &mut S)
+    requires full { length cells.old.items ≡ space_size over.now }
+    requires within { IsWithin space.now over.now }
+    requires ready { S.IsReady step.old space.now 0 }
+    ensures full { length cells.new.items ≡ space_size over.now }
+    ensures written { WritesPoints (column_over over.now cells.old.items) (column_over over.now cells.new.items) space.now
+        (λ p. S.value step.old space.now p (cell_of (column_over over.now cells.old.items) p)) }
+{
     earlier_points();
     runs_of_spaces();
     runs_are_written();
     spaces_are_written();
-    let (over, mut cells) = column.into_parts();
     let intervals = space.intervals();
     for k in 0..intervals.len() {
         let start = over.start_of(intervals[k]) as usize;
         let size = (intervals[k].1 - intervals[k].0) as usize + 1;
         step.write(space, k, &mut cells[start..start + size]);
     }
-    Column::from_parts(over, cells)
 }
 
 /// The cells of a column in the run of number `k` of a space.
-pub(crate) fn run_of<'a>(column: &'a Column, space: &Space, k: usize) -> &'a [u64]
+pub(crate) fn run_of<'a>(column: &'a ColumnView<'_>, space: &Space, k: usize) -> &'a [u64]
     requires place { k < length space.now }
     requires within { IsWithin space.now column.now.space }
     ensures size { length result.now ≡ interval_size (pair_at space.now k) }

@@ -9,6 +9,7 @@ use Rattle.graph_terms.specs.declared.verb.Line.{Line}
 use Rattle.graph_terms.specs.declared.outcome.Verdict.{Verdict}
 use Rattle.graph_terms.specs.declared.outcome.Verdict.TheVariants.{Fine}
 use Rattle.graph_terms.specs.declared.format.Format.{Format}
+use Rattle.graph_terms.specs.declared.format.Format.TheVariants.{One}
 use Rattle.graph_terms.specs.declared.table.Kernel.{Kernel}
 use Rattle.graph_terms.specs.declared.table.Kernel.TheVariants.{Expect}
 use Rattle.graph_terms.specs.declared.verb.Verb.{Verb}
@@ -22,9 +23,9 @@ use Rattle.index_spaces.specs.declared.Op.{Op}
 use Rattle.index_spaces.specs.declared.Op.TheVariants as op
 use Rattle.graph_terms.specs.declared.verb.Mode.{Mode}
 use Rattle.graph_terms.specs.declared.verb.Mode.TheVariants as mode
-use Rattle.index_spaces.specs.Held.{held_at}
-use Rattle.line_effects.specs.Moved.{moves, HeldShow}
-use Rattle.graph_terms.specs.Access.{access, in_format, or_write, accesses, verb_accesses, kernel_accesses}
+use Rattle.index_spaces.specs.Held.{HeldList, held_at, lending_at}
+use Rattle.line_effects.specs.Moved.{moves, HeldShow, OwnsChanged}
+use Rattle.graph_terms.specs.Access.{access, in_format, is_read, or_write, accesses, verb_accesses, kernel_accesses}
 use Rattle.graph_meaning.specs.Effect.{Cells, CellChange, Effect, effect, cells_after, verb_changes, verb_verdict}
 use Rattle.index_spaces.specs.Space.{points, IsWithin}
 use Rattle.index_spaces.specs.Column.{ColumnValue}
@@ -47,7 +48,7 @@ nothing space cells (Reduce o a b s) f c r t = absurd (r o a b s refl)
 nothing space cells (Task k) f c r t = absurd (t k refl)
 nothing space cells v f c r t = (refl, refl)
 
-pub unchanged : (g : GraphValue) (i : ℕ) (l : Line) (cells : Cells) (held : List (ℕ × ColumnValue)) → slice_get g.lines i ≡ Some l → ((t s x : ℕ) → l.verb ≡ Fill t s x → ⊥) → ((a b s : ℕ) → l.verb ≡ Copy a b s → ⊥) → ((o : Op) (a b s : ℕ) → l.verb ≡ Reduce o a b s → ⊥) → ((k : Kernel) → l.verb ≡ Task k → ⊥) → HeldShow g cells held →
+pub unchanged : (g : GraphValue) (i : ℕ) (l : Line) (cells : Cells) (held : HeldList) → slice_get g.lines i ≡ Some l → ((t s x : ℕ) → l.verb ≡ Fill t s x → ⊥) → ((a b s : ℕ) → l.verb ≡ Copy a b s → ⊥) → ((o : Op) (a b s : ℕ) → l.verb ≡ Reduce o a b s → ⊥) → ((k : Kernel) → l.verb ≡ Task k → ⊥) → HeldShow g cells held →
     (Fine ≡ (effect g i cells).verdict) × HeldShow g (cells_after cells (effect g i cells).changes) held
 unchanged g i l cells held h f c r t shown =
     let none = nothing (space_at g) cells l.verb f c r t in
@@ -55,17 +56,17 @@ unchanged g i l cells held h f c r t shown =
     (sym (ap (λ (x : Effect). x.verdict) is), subst (λ (x : Effect). HeldShow g (cells_after cells x.changes) held) (sym is) shown)
 
 -- the changes of a verb were made in the columns that are held
-pub made : ColumnsOfChanges → (g : GraphValue) (i : ℕ) (l : Line) (v : Verb) (cells : Cells) (verdict : Verdict) (old new : List (ℕ × ColumnValue)) → slice_get g.lines i ≡ Some l → l.verb ≡ v → verdict ≡ verb_verdict (space_at g) cells v → MakesChanges old new (λ c. verb_changes (space_at g) c v) → HeldShow g cells old →
+pub made : ColumnsOfChanges → (g : GraphValue) (i : ℕ) (l : Line) (v : Verb) (cells : Cells) (verdict : Verdict) (old new : HeldList) → slice_get g.lines i ≡ Some l → l.verb ≡ v → verdict ≡ verb_verdict (space_at g) cells v → MakesChanges old new (λ c. verb_changes (space_at g) c v) → HeldShow g cells old →
     (verdict ≡ (effect g i cells).verdict) × HeldShow g (cells_after cells (effect g i cells).changes) new
 made law g i l v cells verdict old new h e says m shown =
     let is : effect g i cells ≡ record { verdict = verb_verdict (space_at g) cells v; changes = verb_changes (space_at g) cells v } =
     effect_is g i l cells h ∙ ap (λ x. record { verdict = verb_verdict (space_at g) cells x; changes = verb_changes (space_at g) cells x }) e in
     (says ∙ sym (ap (λ (x : Effect). x.verdict) is), subst (λ (x : Effect). HeldShow g (cells_after cells x.changes) new) (sym is) (law g old new (λ c. verb_changes (space_at g) c v) cells m shown))
 
-pub has_cells : (g : GraphValue) (cells : Cells) (held : List (ℕ × ColumnValue)) → HeldShow g cells held → HasCells held cells
+pub has_cells : (g : GraphValue) (cells : Cells) (held : HeldList) → HeldShow g cells held → HasCells held cells
 has_cells g cells held shown c x h = let is = shown c x h in ap (λ (y : ColumnValue). y.cells) is ∙ ap (λ (y : ColumnValue). map (cells c) (points y.space)) (sym is)
 
-pub same_held : (old new : List (ℕ × ColumnValue)) (changes : Cells → List CellChange) → MakesChanges old new changes → (c : ℕ) → is_some (held_at new c) ≡ is_some (held_at old c)
+pub same_held : (old new : HeldList) (changes : Cells → List CellChange) → MakesChanges old new changes → (c : ℕ) → is_some (held_at new c) ≡ is_some (held_at old c)
 same_held old new changes m c = some_mapped (held_at new c) ∙ (ap is_some (m.spaces c) ∙ sym (some_mapped (held_at old c)))
   where
     some_mapped : (o : Option ColumnValue) → is_some o ≡ is_some (option_map (λ (x : ColumnValue). x.space) o)
@@ -73,7 +74,7 @@ same_held old new changes m c = some_mapped (held_at new c) ∙ (ap is_some (m.s
     some_mapped (Some x) = refl
 
 -- a column of an access is held, over all points of the access
-pub over : (g : GraphValue) (cells : Cells) (held : List (ℕ × ColumnValue)) (a : Access) (s : List (ℕ × ℕ)) → HeldShow g cells held → IsSome (held_at held a.column) → AccessFits g a → s ≡ space_at g a.space → HoldsOver held a.column s
+pub over : (g : GraphValue) (cells : Cells) (held : HeldList) (a : Access) (s : List (ℕ × ℕ)) → HeldShow g cells held → IsSome (held_at held a.column) → AccessFits g a → s ≡ space_at g a.space → HoldsOver held a.column s
 over g cells held a s shown some fits e = by_column (held_at held a.column) some (λ x h. subst (λ (y : ColumnValue). IsWithin s y.space) (sym (shown a.column x h)) (subst (λ t. IsWithin t (column_space g a.column)) (sym e) fits.within))
   where
     by_column : (o : Option ColumnValue) → IsSome o → ((x : ColumnValue) → o ≡ Some x → IsWithin s x.space) → IsSomeAnd o (λ (x : ColumnValue). IsWithin s x.space)
@@ -110,10 +111,15 @@ pub space_known : AccessesFit → (g : GraphValue) → IsGraph g → (i k : ℕ)
 space_known law g is i k l v a h e at = (law g i a is (access_listed g i k a (listed_at g i k l v a h e at))).space
 
 pub over_access : AccessesFit → (g : GraphValue) → IsGraph g → (i k : ℕ) (l : Line) (v : Verb) (a : Access) → slice_get g.lines i ≡ Some l → l.verb ≡ v → slice_get (accesses_in g.format v) k ≡ Some a →
-    (cells : Cells) (held : List (ℕ × ColumnValue)) (s : List (ℕ × ℕ)) → HeldShow g cells held → ((k c : ℕ) → slice_get (moves g i) k ≡ Some c → IsSome (held_at held c)) → s ≡ space_at g a.space → HoldsOver held a.column s
+    (cells : Cells) (held : HeldList) (s : List (ℕ × ℕ)) → HeldShow g cells held → ((k c : ℕ) → slice_get (moves g i) k ≡ Some c → IsSome (held_at held c)) → s ≡ space_at g a.space → HoldsOver held a.column s
 over_access law g is i k l v a h e at cells held s shown moved space =
     let there = listed_at g i k l v a h e at in
     over g cells held a s shown (moved k a.column (move_at g i k a there)) (law g i a is (access_listed g i k a there)) space
+
+-- the column of an access that may change it is no share
+pub own_access : (g : GraphValue) (i k : ℕ) (l : Line) (v : Verb) (a : Access) → slice_get g.lines i ≡ Some l → l.verb ≡ v → slice_get (accesses_in g.format v) k ≡ Some a →
+    (held : HeldList) → OwnsChanged g i held → is_read a.mode ≡ false → lending_at held a.column ≡ None
+own_access g i k l v a h e at held own changes = own a (access_listed g i k a (listed_at g i k l v a h e at)) changes
 
 pub columns_apart : ColumnsDiffer → (g : GraphValue) → IsGraph g → (i : ℕ) (l : Line) (v : Verb) (a b : Access) → slice_get g.lines i ≡ Some l → l.verb ≡ v → slice_get (accesses_in g.format v) 0 ≡ Some a → slice_get (accesses_in g.format v) 1 ≡ Some b → a.column ≢ b.column
 columns_apart law g is i l v a b h e first second = law g i 0 1 a b is (omega arith) (listed_at g i 0 l v a h e first) (listed_at g i 1 l v b h e second)
@@ -123,6 +129,15 @@ abbrev pub reduced_mode : Format → Op → Mode
 reduced_mode f op.Sum = mode.Sum
 reduced_mode f op.Min = or_write f mode.Least
 reduced_mode f op.Max = or_write f mode.Most
+
+no_read : (f : Format) (m : Mode) → is_read m ≡ false → is_read (or_write f m) ≡ false
+no_read One m h = refl
+no_read f m h = h
+
+pub reduces_changed : (f : Format) (o : Op) → is_read (reduced_mode f o) ≡ false
+reduces_changed f op.Sum = refl
+reduces_changed f op.Min = no_read f mode.Least refl
+reduces_changed f op.Max = no_read f mode.Most refl
 
 pub reduces_from : (f : Format) (o : Op) (a b s : ℕ) → slice_get (accesses_in f (Reduce o a b s)) 0 ≡ Some (access a s mode.Read)
 reduces_from f op.Sum a b s = refl
@@ -158,13 +173,14 @@ moves_apart differ g is i j m x y b p q =
     λ e. differ g i j m a.0 c.0 is b a.1 c.1 (a.2 ∙ (e ∙ sym c.2))
 
 -- a kernel may run on the columns of its line
-pub fits_held : AccessesFit → ColumnsDiffer → (g : GraphValue) → IsGraph g → (i : ℕ) (l : Line) (k : Kernel) (cells : Cells) (held : List (ℕ × ColumnValue)) → slice_get g.lines i ≡ Some l → l.verb ≡ Task k → HeldShow g cells held →
-    ((j c : ℕ) → slice_get (moves g i) j ≡ Some c → IsSome (held_at held c)) → FitsHeld g held k
-fits_held law differ g is i l k cells held h e shown moved =
+pub fits_held : AccessesFit → ColumnsDiffer → (g : GraphValue) → IsGraph g → (i : ℕ) (l : Line) (k : Kernel) (cells : Cells) (held : HeldList) → slice_get g.lines i ≡ Some l → l.verb ≡ Task k → HeldShow g cells held →
+    ((j c : ℕ) → slice_get (moves g i) j ≡ Some c → IsSome (held_at held c)) → OwnsChanged g i held → FitsHeld g held k
+fits_held law differ g is i l k cells held h e shown moved own =
     let same : accesses g i ≡ kernel_accesses k = accesses_are g i l (Task k) h e ∙ kernel_in g.format k in
     record {
       declared = λ a c. (law g i a is (subst (λ xs. Contains xs a) (sym same) c)).space;
       columns = λ a c. (let listed = subst (λ xs. Contains xs a) (sym same) c in
           over g cells held a (space_at g a.space) shown (moved listed.0 a.column (move_at g i listed.0 a (slice_get-get_or (accesses g i) listed.0 a listed.1 ∙ ap (λ x. Some x) listed.2))) (law g i a is listed) refl);
+      own = λ a c changes. own a (subst (λ xs. Contains xs a) (sym same) c) changes;
       distinct = subst (λ xs. repeats nat_eq (map (λ (a : Access). a.column) xs) ≡ false) same (none_repeats (moves g i) (λ j m x y b p q. moves_apart differ g is i j m x y b p q));
     }

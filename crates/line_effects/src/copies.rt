@@ -1,22 +1,24 @@
 //! Fills, copies and reductions over spaces, in columns that are held.
 
-ghost use Rattle.std.specs.Prelude.{◌≢◌};
+ghost use Rattle.std.specs.Prelude.{◌≡◌, ◌≢◌, None};
 ghost use Rattle.index_spaces.specs.Space.{IsWithin};
 ghost use Rattle.index_spaces.specs.Column.{cell_of};
+ghost use Rattle.index_spaces.specs.Held.{lending_at};
 ghost use Rattle.index_spaces.specs.Run.{reduced_cell, WritesPoints};
 ghost use Rattle.graph_terms.specs.declared.verb.Verb.TheVariants.{Fill, Copy, Reduce};
 ghost use Rattle.graph_meaning.specs.HeldCells.{HoldsOver, MakesVerb};
 
 use graph_meaning::held_cells::{cells_by_point, changes_by_point};
 use index_spaces::Op;
-use index_spaces::column::Column;
+use index_spaces::column::{Column, ColumnView};
 use index_spaces::held::Held;
 use index_spaces::laws::{earlier_points, runs_of_spaces, spaces_are_written};
 use index_spaces::space::Space;
 
 /// Writes a value at each point of a space.
 pub fn fill(held: &mut Held, target: u32, space: &Space, value: u64)
-    requires { HoldsOver held.old target space.now }
+    requires target { HoldsOver held.old target space.now }
+    requires own { lending_at held.old target ≡ None }
     ensures { MakesVerb held.old held.new space.now (λ s. Fill target s value) }
 {
     changes_by_point();
@@ -32,6 +34,7 @@ pub fn fill(held: &mut Held, target: u32, space: &Space, value: u64)
 pub fn copy(held: &mut Held, source: u32, target: u32, space: &Space)
     requires source { HoldsOver held.old source space.now }
     requires target { HoldsOver held.old target space.now }
+    requires own { lending_at held.old target ≡ None }
     requires distinct { source ≢ target }
     ensures { MakesVerb held.old held.new space.now (λ s. Copy source target s) }
 {
@@ -40,9 +43,9 @@ pub fn copy(held: &mut Held, source: u32, target: u32, space: &Space)
     let _ = space.intervals();
     let mut to = held.take(target);
     let _ = to.space().intervals();
-    let from = held.column(source).unwrap();
+    let from = held.view(source).unwrap();
     let _ = from.space().intervals();
-    copy_points(&mut to, from, space);
+    copy_points(&mut to, &from, space);
     let _ = to.space();
     held.add(target, to);
 }
@@ -51,6 +54,7 @@ pub fn copy(held: &mut Held, source: u32, target: u32, space: &Space)
 pub fn reduce(held: &mut Held, op: Op, source: u32, target: u32, space: &Space)
     requires source { HoldsOver held.old source space.now }
     requires target { HoldsOver held.old target space.now }
+    requires own { lending_at held.old target ≡ None }
     requires distinct { source ≢ target }
     ensures { MakesVerb held.old held.new space.now (λ s. Reduce op source target s) }
 {
@@ -59,9 +63,9 @@ pub fn reduce(held: &mut Held, op: Op, source: u32, target: u32, space: &Space)
     let _ = space.intervals();
     let mut to = held.take(target);
     let _ = to.space().intervals();
-    let from = held.column(source).unwrap();
+    let from = held.view(source).unwrap();
     let _ = from.space().intervals();
-    reduce_points(op, &mut to, from, space);
+    reduce_points(op, &mut to, &from, space);
     let _ = to.space();
     held.add(target, to);
 }
@@ -77,7 +81,7 @@ fn fill_points(to: &mut Column, space: &Space, value: u64)
     }
 }
 
-fn copy_points(to: &mut Column, from: &Column, space: &Space)
+fn copy_points(to: &mut Column, from: &ColumnView<'_>, space: &Space)
     requires here { IsWithin space.now to.old.space }
     requires there { IsWithin space.now from.now.space }
     ensures { WritesPoints to.old to.new space.now (cell_of from.now) }
@@ -89,7 +93,7 @@ fn copy_points(to: &mut Column, from: &Column, space: &Space)
     }
 }
 
-fn reduce_points(op: Op, to: &mut Column, from: &Column, space: &Space)
+fn reduce_points(op: Op, to: &mut Column, from: &ColumnView<'_>, space: &Space)
     requires here { IsWithin space.now to.old.space }
     requires there { IsWithin space.now from.now.space }
     ensures { WritesPoints to.old to.new space.now (λ p. reduced_cell op (cell_of to.old p) (cell_of from.now p)) }

@@ -1,7 +1,7 @@
 //! The columns of a line, moved out of their homes and back.
 
 ghost use Rattle.std.specs.Prelude.{◌≡◌, ℕ, ◌<◌, ◌+◌, length, slice_get, slice_index_or, slice_set, Some, None, IsSome, IfSome};
-ghost use Rattle.index_spaces.specs.Held.{held_at, HoldsOtherwise};
+ghost use Rattle.index_spaces.specs.Held.{held_at, lending_at, HoldsOtherwise};
 ghost use Rattle.graph_terms.specs.Graph.{columns};
 ghost use Rattle.line_effects.specs.Moved.{moves, AreMoved, AreBack};
 
@@ -51,6 +51,7 @@ fn take_column(homes: &mut Homes, held: &mut Held, c: u32)
     requires few { length held.old < 4 }
     ensures homes { homes.new ≡ slice_set homes.old c None }
     ensures held { HoldsOtherwise held.old held.new c (slice_index_or homes.old c None) }
+    ensures own { lending_at held.new c ≡ None }
     ensures number { length held.new ≡ length held.old + 1 }
 {
     let column = homes.take(c).unwrap();
@@ -63,6 +64,7 @@ pub fn give_columns(graph: &Graph, line: u32, mut held: Held, homes: &mut Homes)
     requires each { length homes.old ≡ length (columns graph.now) }
     requires out { (k c : ℕ) → slice_get (moves graph.now line) k ≡ Some c → slice_index_or homes.old c None ≡ None }
     requires has { (k c : ℕ) → slice_get (moves graph.now line) k ≡ Some c → IsSome (held_at held c) }
+    requires own { (k c : ℕ) → slice_get (moves graph.now line) k ≡ Some c → lending_at held c ≡ None }
     ensures { AreBack graph.now line held homes.old homes.new }
 {
     columns_differ();

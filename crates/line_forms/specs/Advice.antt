@@ -1,5 +1,5 @@
 -- What is told of a line that is refused for its form.
-use Rattle.std.specs.Prelude.{ℕ, ◌+◌, ◌==◌, nat_lt, Bool, cond, not, ◌&&◌, ◌||◌, List, [], ◌∷◌, ◌++◌, length, flat_map, codes, decimal}
+use Rattle.std.specs.Prelude.{ℕ, ◌+◌, ◌-◌, ◌==◌, nat_lt, Bool, cond, not, ◌&&◌, ◌||◌, List, [], ◌∷◌, ◌++◌, length, take, flat_map, codes, decimal}
 use Rattle.std.specs.Option.{option_map_or}
 use Rattle.std.specs.List.{concat, list_any, slice_index_or}
 use Rattle.std.specs.Str.{bytes_eq}
@@ -8,7 +8,7 @@ use Rattle.graph_terms.specs.declared.format.Format.TheVariants.{Three}
 use Rattle.graph_terms.specs.Format.{has_since}
 use Rattle.graph_terms.specs.declared.why.Why.{Why}
 use Rattle.graph_terms.specs.declared.why.Why.TheVariants as why
-use Rattle.graph_words.specs.Words.{pieces}
+use Rattle.line_forms.specs.declared.advice.TheConstants.{MAX_WORD}
 use Rattle.line_forms.specs.declared.blanks.Blank.TheVariants.{Return}
 use Rattle.line_forms.specs.declared.form.Form.{Form}
 use Rattle.line_forms.specs.declared.form.TheConstants.{FORMS}
@@ -16,16 +16,23 @@ use Rattle.line_forms.specs.declared.vocabulary.Vocabulary.{Vocabulary}
 use Rattle.line_forms.specs.declared.vocabulary.Vocabulary.TheVariants.{Starts, Verbs, Kernels}
 use Rattle.line_forms.specs.Blanks.{ends_with_return, blank_in, blank_text}
 use Rattle.line_forms.specs.Forms.{form_words, takes_on, takes_several, shown_front, shown_end, followed, is_told}
-use Rattle.line_forms.specs.Columns.{repeated_text}
+use Rattle.line_forms.specs.Columns.{repeated_text, is_task}
 use Rattle.line_forms.specs.Files.{first_text, rest_text}
 use Rattle.line_forms.specs.Hint.{are_events, merge_hint}
 use Rattle.line_forms.specs.Left.{left_text}
 use Rattle.line_forms.specs.Words.{vocabulary_words, vocabulary_text, nearest, nearest_text}
 
+-- a word as it is told: of a long one the front, and `..` as its end
+abbrev pub word_front : List ℕ → List ℕ
+word_front w = cond (nat_lt MAX_WORD (length w)) (take (MAX_WORD - 2) w) w
+
+abbrev pub word_end : List ℕ → List ℕ
+word_end w = cond (nat_lt MAX_WORD (length w)) (codes "..") []
+
 -- word n of a line, from 0, is the first at which the line leaves a form, or would be
 abbrev pub leave_text : List (List ℕ) → ℕ → List ℕ
 leave_text ws n =
-    cond (nat_lt n (length ws)) (concat (codes "the line leaves it at word " ∷ decimal (n + 1) ∷ codes ": " ∷ slice_index_or ws n [] ∷ codes "\n" ∷ []))
+    cond (nat_lt n (length ws)) (concat (codes "the line leaves it at word " ∷ decimal (n + 1) ∷ codes ": " ∷ word_front (slice_index_or ws n []) ∷ word_end (slice_index_or ws n []) ∷ codes "\n" ∷ []))
     (concat (codes "the line ends before word " ∷ decimal (n + 1) ∷ codes " of it\n" ∷ []))
 
 -- a second event stands behind the whole form, of which the format takes one, and nothing that names none
@@ -59,10 +66,10 @@ is_declared format ws = not (is_operation ws) && begins_declaration format (slic
 
 -- the number of the word that would tell what the line is, and the words that may stand there
 abbrev pub key_place : List (List ℕ) → ℕ
-key_place ws = cond (is_operation ws) (cond (bytes_eq (slice_index_or ws 2 []) (codes "task")) 3 2) 0
+key_place ws = cond (is_operation ws) (cond (is_task ws) 3 2) 0
 
 abbrev pub vocabulary_of : List (List ℕ) → Vocabulary
-vocabulary_of ws = cond (is_operation ws) (cond (bytes_eq (slice_index_or ws 2 []) (codes "task")) Kernels Verbs) Starts
+vocabulary_of ws = cond (is_operation ws) (cond (is_task ws) Kernels Verbs) Starts
 
 -- a text and a word, where something holds
 abbrev pub where_text : Bool → List ℕ → List ℕ → List ℕ
@@ -109,13 +116,13 @@ syntax_text format below line ws = option_map_or blank_text (blank_in line ws) (
 abbrev pub header_text : List ℕ → List (List ℕ) → List ℕ
 header_text line ws = option_map_or blank_text (blank_in line ws) (first_text line)
 
-abbrev pub reason_text : Format → Bool → Why → List ℕ → List ℕ
-reason_text format below why.Header line = header_text line (pieces 32 line)
-reason_text format below why.Syntax line = syntax_text format below line (pieces 32 line)
-reason_text format below why.Twice line = repeated_text (pieces 32 line)
-reason_text format below why.Rest line = rest_text line
-reason_text format below _ line = []
+abbrev pub reason_text : Format → Bool → Why → List ℕ → List (List ℕ) → List ℕ
+reason_text format below why.Header line ws = header_text line ws
+reason_text format below why.Syntax line ws = syntax_text format below line ws
+reason_text format below why.Twice line ws = repeated_text ws
+reason_text format below why.Rest line ws = rest_text line
+reason_text format below _ line ws = []
 
--- what is told of a line that is refused for this reason
-abbrev pub advice : Format → Bool → Why → List ℕ → List ℕ
-advice format below reason line = cond (ends_with_return line) (blank_text Return) (reason_text format below reason line)
+-- what is told of a line of these words that is refused for this reason
+abbrev pub advice : Format → Bool → Why → List ℕ → List (List ℕ) → List ℕ
+advice format below reason line ws = cond (ends_with_return line) (blank_text Return) (reason_text format below reason line ws)

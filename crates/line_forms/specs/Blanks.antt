@@ -33,5 +33,5 @@ abbrev pub blank_text : Blank → List ℕ
 blank_text Return = codes "the line ends with a carriage return: lines end with a newline alone\n"
 blank_text Empty = codes "the line is empty: formats 1 and 2 have no blank lines\nformat 3 has them, from the second line on\n"
 blank_text Comment = codes "the line begins with #: formats 1 and 2 have no comments\nformat 3 has them, from the second line on\n"
-blank_text Tab = codes "the line has a tab: formats 1 and 2 have one space between two words\n"
-blank_text Spaces = codes "two spaces stand side by side, or one at an end: formats 1 and 2 have one between two words\n"
+blank_text Tab = codes "the line has a tab: one space stands between two words\n"
+blank_text Spaces = codes "two spaces stand side by side, or one at an end: one stands between two words\n"

@@ -1,7 +1,8 @@
 -- The two lines to write for one that waits for several events.
-use Rattle.std.specs.Prelude.{ℕ, ◌-◌, Bool, not, ◌||◌, List, ◌∷◌, ◌++◌, take, drop, flat_map, codes}
+use Rattle.std.specs.Prelude.{ℕ, ◌-◌, nat_le, Bool, not, ◌&&◌, ◌||◌, List, ◌∷◌, ◌++◌, length, take, drop, flat_map, codes}
 use Rattle.std.specs.List.{list_any}
 use Rattle.std.specs.Str.{bytes_eq}
+use Rattle.graph_terms.specs.declared.limits.TheConstants.{MAX_EVENTS}
 use Rattle.line_forms.specs.declared.form.Form.{Form}
 use Rattle.line_forms.specs.declared.form.Form.TheVariants as forms
 use Rattle.line_forms.specs.Blanks.{begins_comment}
@@ -16,9 +17,13 @@ behind_space w = w ++ codes " "
 abbrev pub is_no_event : List ℕ → Bool
 is_no_event w = begins_comment w || (bytes_eq w (codes "on") || (bytes_eq w (codes "merge") || (bytes_eq w (codes "mergei") || bytes_eq w (codes "and"))))
 
--- the words from number n - 1 on may name events
+-- words may name the events of a merge of formats 1 and 2, which names no more than these
+abbrev pub may_merge : List (List ℕ) → Bool
+may_merge ws = nat_le (length ws) MAX_EVENTS && not (list_any is_no_event ws)
+
+-- the words from number n - 1 on may
 abbrev pub are_events : List (List ℕ) → ℕ → Bool
-are_events ws n = not (list_any is_no_event (drop (n - 1) ws))
+are_events ws n = may_merge (drop (n - 1) ws)
 
 -- the merge that the line may wait for: a release waits for one that ignores faults
 abbrev pub merge_words : Form → List ℕ

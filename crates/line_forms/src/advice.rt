@@ -1,11 +1,9 @@
 //! What is told of a line that is refused for its form.
 
-ghost use Rattle.std.specs.Prelude.{◌≡◌, ◌≤◌, not, ◌&&◌, ◌++◌, [], length, codes, IfOk, OnOk};
-ghost use Rattle.std.specs.List.{slice_index_or};
-ghost use Rattle.std.specs.Str.{bytes_eq};
+ghost use Rattle.std.specs.Prelude.{◌≡◌, ◌≤◌, not, ◌&&◌, ◌++◌, length, IfOk, OnOk};
 ghost use Rattle.basics.specs.Words.{contents};
 ghost use Rattle.line_forms.specs.Forms.{form_words, takes_on, takes_several};
-ghost use Rattle.line_forms.specs.Advice.{leave_text, several_text, told_at, told_text, told_texts, is_operation, begins_declaration, is_declared, vocabulary_of, key_place, where_text, is_verb, is_kernel, moved_text, has_sign, joined_text, left_at, unknown_text, forms_text, words_text, syntax_text, header_text, reason_text, advice};
+ghost use Rattle.line_forms.specs.Advice.{word_front, word_end, leave_text, several_text, told_at, told_text, told_texts, is_operation, begins_declaration, is_declared, vocabulary_of, key_place, where_text, is_verb, is_kernel, moved_text, has_sign, joined_text, left_at, unknown_text, forms_text, words_text, syntax_text, header_text, reason_text, advice};
 
 use crate::blanks::{Blank, blank_in, blank_text, ends_with_return};
 use crate::files::{first_text, rest_text};
@@ -15,17 +13,20 @@ use crate::hint::{are_events, put_merge_hint};
 use crate::left::left_text;
 use crate::nearest::{nearest, put_nearest};
 use crate::putting::{put, put_all};
-use crate::twice::{is_among, put_repeated};
+use crate::twice::{is_among, is_task, put_repeated};
 use crate::vocabulary::{Vocabulary, vocabulary_text, vocabulary_words};
 use graph_terms::format::Format;
 use graph_terms::why::Why;
-use graph_words::words::{split, word};
+use graph_words::words::word;
 use index_spaces::NoMemory;
 use itoa::Buffer;
 use std::alloc::Global;
 
-/// What is told of a line that is refused for this reason, in a text of this format, below an operation
-/// or not: that it ends with a carriage return; for `header` and `syntax` what no line has in it; for
+/// Bytes of a word that is told: of a longer one the front is, and `..`.
+const MAX_WORD: usize = 200;
+
+/// What is told of a line of these words that is refused for this reason, in a text of this format, below an
+/// operation or not: that it ends with a carriage return; for `header` and `syntax` what no line has in it; for
 /// `header` and `rest` what begins so; for `syntax` the forms of its verb or kernel, each with the word
 /// at which the line leaves it, or the words next to one that is none; for `twice` a column that stands
 /// in it twice.
@@ -35,15 +36,16 @@ pub fn line_advice(
     below: bool,
     why: Why,
     line: &[u8],
+    words: &[&[u8]],
 ) -> Result<Vec<u8>, NoMemory>
-    ensures { IfOk result (λ v. v.items ≡ advice format below why line.now) }
+    ensures { IfOk result (λ v. v.items ≡ advice format below why line.now (contents words.now)) }
 {
     let mut out = Vec::new(alloc);
     if ends_with_return(line) {
         put(&mut out, blank_text(Blank::Return))?;
         return Ok(out);
     }
-    put_reason(alloc, &mut out, format, below, why, line)?;
+    put_reason(alloc, &mut out, format, below, why, line, words)?;
     Ok(out)
 }
 
@@ -55,14 +57,14 @@ fn put_reason(
     below: bool,
     why: Why,
     line: &[u8],
+    words: &[&[u8]],
 ) -> Result<(), NoMemory>
-    ensures { OnOk result (out.new.items ≡ out.old.items ++ reason_text format below why line.now) }
+    ensures { OnOk result (out.new.items ≡ out.old.items ++ reason_text format below why line.now (contents words.now)) }
 {
-    let words = split(alloc, line, b' ')?;
     match why {
-        Why::Header => put_header(out, line, words.as_slice()),
-        Why::Twice => put_repeated(out, words.as_slice()),
-        Why::Syntax => put_syntax(alloc, out, format, below, line, words.as_slice()),
+        Why::Header => put_header(out, line, words),
+        Why::Twice => put_repeated(out, words),
+        Why::Syntax => put_syntax(alloc, out, format, below, line, words),
         Why::Rest => put(out, rest_text(line)),
         _ => Ok(()),
     }
@@ -250,12 +252,30 @@ fn put_leave(out: &mut Vec<u8>, words: &[&[u8]], n: usize) -> Result<(), NoMemor
                 b"the line leaves it at word ",
                 number,
                 b": ",
-                word(words, n),
+                word_front(word(words, n)),
+                word_end(word(words, n)),
                 b"\n",
             ],
         );
     }
     put_all(out, &[b"the line ends before word ", number, b" of it\n"])
+}
+
+/// A word as it is told: of a long one the front.
+fn word_front(word: &[u8]) -> &[u8]
+    ensures { result.now ≡ word_front word.now }
+{
+    if word.len() <= MAX_WORD {
+        return word;
+    }
+    &word[..MAX_WORD - 2]
+}
+
+/// The end of a word as it is told.
+fn word_end(word: &[u8]) -> &[u8]
+    ensures { result.now ≡ word_end word.now }
+{
+    if word.len() <= MAX_WORD { b"" } else { b".." }
 }
 
 /// Whether the second word is the sign of an operation.
@@ -304,12 +324,6 @@ fn vocabulary_of(words: &[&[u8]]) -> Vocabulary
     } else {
         Vocabulary::Verbs
     }
-}
-
-fn is_task(words: &[&[u8]]) -> bool
-    ensures { result ≡ bytes_eq (slice_index_or (contents words.now) 2 []) (codes "task") }
-{
-    word(words, 2) == b"task".as_slice()
 }
 
 /// Puts that no line has this word where it would tell what the line is, and the nearest that may stand there.

@@ -30,9 +30,9 @@ pub fn blank_text(blank: Blank) -> &'static [u8]
             b"the line is empty: formats 1 and 2 have no blank lines\nformat 3 has them, from the second line on\n",
         Blank::Comment =>
             b"the line begins with #: formats 1 and 2 have no comments\nformat 3 has them, from the second line on\n",
-        Blank::Tab => b"the line has a tab: formats 1 and 2 have one space between two words\n",
+        Blank::Tab => b"the line has a tab: one space stands between two words\n",
         Blank::Spaces => {
-            b"two spaces stand side by side, or one at an end: formats 1 and 2 have one between two words\n"
+            b"two spaces stand side by side, or one at an end: one stands between two words\n"
         }
     }
 }

@@ -3,11 +3,12 @@
 ghost use Rattle.std.specs.Prelude.{◌≡◌, ◌++◌, ◌≤◌, drop, take, length, flat_map, OnOk};
 ghost use Rattle.std.specs.List.{list_any};
 ghost use Rattle.basics.specs.Words.{contents};
-ghost use Rattle.line_forms.specs.Hint.{before_space, behind_space, is_no_event, are_events, merge_words, later_format, merge_lines, merge_hint};
+ghost use Rattle.line_forms.specs.Hint.{before_space, behind_space, is_no_event, may_merge, are_events, merge_words, later_format, merge_lines, merge_hint};
 
 use crate::blanks::begins_comment;
 use crate::form::Form;
 use crate::putting::put;
+use graph_terms::limits::MAX_EVENTS;
 use graph_words::words::behind;
 use index_spaces::NoMemory;
 
@@ -69,7 +70,14 @@ pub(crate) fn are_events(words: &[&[u8]], n: usize) -> bool
     ensures { result ≡ are_events (contents words.now) n }
 {
     let last = n.saturating_sub(1);
-    !has_other(behind(words, last))
+    may_merge(behind(words, last))
+}
+
+/// Whether words may name the events of a merge of formats 1 and 2.
+fn may_merge(words: &[&[u8]]) -> bool
+    ensures { result ≡ may_merge (contents words.now) }
+{
+    words.len() <= MAX_EVENTS as usize && !has_other(words)
 }
 
 /// Whether one of some words names no event.

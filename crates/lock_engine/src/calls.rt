@@ -24,7 +24,7 @@ pub(crate) fn put_back<'g, R: Wait>(
     ensures idle { seat.new.me.0.line ≡ None }
 {
     let mut core = take_turn(rt, lock, sleepers, seat);
-    core.put_back(finished);
+    core.inner.put_back(finished);
     give_turn(lock, sleepers, seat, core);
 }
 
@@ -41,7 +41,7 @@ pub(crate) fn issue<'g, R: Wait>(
     ensures issued { IsIssuedOf seat.old.me.0.core.graph result }
 {
     let mut core = take_turn(rt, lock, sleepers, seat);
-    let answer = core.issue();
+    let answer = core.inner.issue();
     give_turn(lock, sleepers, seat, core);
     answer
 }
@@ -60,8 +60,8 @@ pub(crate) fn attempt<'g, R: Wait>(
     ensures work { HasWork seat.new.me.0 (work_in result) }
 {
     let mut core = take_turn(rt, lock, sleepers, seat);
-    let answer = core.attempt(line);
-    core.is_sound();
+    let answer = core.inner.attempt(line);
+    core.inner.is_sound();
     give_turn(lock, sleepers, seat, core);
     answer
 }
@@ -79,7 +79,7 @@ pub(crate) fn next_woken<'g, R: Wait>(
     ensures line { IfSome result (λ i. i < length seat.old.me.0.core.graph.lines) }
 {
     let mut core = take_turn(rt, lock, sleepers, seat);
-    let woken = core.next_woken();
+    let woken = core.inner.next_woken();
     give_turn(lock, sleepers, seat, core);
     woken
 }

@@ -2,6 +2,7 @@
 #![tactic(auto)]
 
 mod calls;
+mod kept_core;
 mod later_lines;
 mod lock;
 mod next_line;

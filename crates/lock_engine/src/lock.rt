@@ -7,23 +7,23 @@ ghost use Rattle.lock_engine.specs.Turns.{Call, IsTurn, line_taken};
 ghost use Rattle.lock_engine.specs.Plays.{with_turn, with_line};
 ghost use Rattle.lock_engine.specs.Seats.{IsWaiting, IsServing, IsResting, view_of};
 
+use crate::kept_core::KeptCore;
 use crate::plays::{Gives, Law, Takes};
 use crate::sleepers::Sleepers;
 use crate::view::View;
 use atomic_table::{Badge, Seat, Shared};
 use graph_model::graph::Graph;
 use idle_workers::spin;
-use run_core::Core;
 use std::sync::Wait;
 
 /// How often a worker tries to take the turn before it sleeps.
 const TRIES: u32 = 8;
 
 /// A worker's place at the lock.
-pub(crate) type LockSeat<'g> = Seat<Option<Core<'g>>, View>;
+pub(crate) type LockSeat<'g> = Seat<Option<KeptCore<'g>>, View>;
 
 /// The lock as workers share it.
-pub(crate) type Lock<'g> = Shared<Option<Core<'g>>, View, Graph, Law>;
+pub(crate) type Lock<'g> = Shared<Option<KeptCore<'g>>, View, Graph, Law>;
 
 /// Takes a place at the lock.
 pub(crate) fn take_seat<'g>(badge: Badge<View>) -> LockSeat<'g>
@@ -50,7 +50,7 @@ pub(crate) fn take_turn<'g, R: Wait>(
     lock: &Lock<'g>,
     sleepers: &Sleepers,
     seat: &mut LockSeat<'g>,
-) -> Core<'g>
+) -> KeptCore<'g>
     requires waiting { IsWaiting lock.now.table_id seat.old }
     ensures serving { IsServing lock.now.table_id seat.new }
     ensures view { seat.new.me.0 ≡ with_turn seat.old.me.0 result }
@@ -70,7 +70,7 @@ pub(crate) fn take_turn<'g, R: Wait>(
 
 /// Takes the core out where nobody has the turn at one of several tries, between which it spins. None
 /// comes where somebody has it at each.
-fn try_often<'g>(lock: &Lock<'g>, seat: &mut LockSeat<'g>) -> Option<Core<'g>>
+fn try_often<'g>(lock: &Lock<'g>, seat: &mut LockSeat<'g>) -> Option<KeptCore<'g>>
     requires waiting { IsWaiting lock.now.table_id seat.old }
     ensures some { IfSome result (λ c. IsServing lock.now.table_id seat.new × (seat.new.me.0 ≡ with_turn seat.old.me.0 c)) }
     ensures graph { IfSome result (λ c. c.graph ≡ seat.old.me.0.core.graph) }
@@ -87,7 +87,7 @@ fn try_often<'g>(lock: &Lock<'g>, seat: &mut LockSeat<'g>) -> Option<Core<'g>>
 }
 
 /// Takes the core out where nobody has the turn. None comes where somebody has it.
-fn try_turn<'g>(lock: &Lock<'g>, seat: &mut LockSeat<'g>) -> Option<Core<'g>>
+fn try_turn<'g>(lock: &Lock<'g>, seat: &mut LockSeat<'g>) -> Option<KeptCore<'g>>
     requires waiting { IsWaiting lock.now.table_id seat.old }
     ensures some { IfSome result (λ c. IsServing lock.now.table_id seat.new × (seat.new.me.0 ≡ with_turn seat.old.me.0 c)) }
     ensures graph { IfSome result (λ c. c.graph ≡ seat.old.me.0.core.graph) }
@@ -107,7 +107,7 @@ pub(crate) fn give_turn<'g>(
     lock: &Lock<'g>,
     sleepers: &Sleepers,
     seat: &mut LockSeat<'g>,
-    core: Core<'g>,
+    core: KeptCore<'g>,
 )
     requires serving { IsServing lock.now.table_id seat.old }
     requires turn { (call : Call) × IsTurn seat.old.me.0.core seat.old.me.0.line call core }

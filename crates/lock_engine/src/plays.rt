@@ -3,15 +3,15 @@
 ghost use Rattle.lock_engine.specs.Rule.{Guards, first_view};
 ghost use Rattle.lock_engine.specs.Plays.{turns, HasGiven, without_part, one_part, joined, spent_view};
 
+use crate::kept_core::KeptCore;
 use crate::view::View;
 use atomic_table::{Join, Play, Split, TableRule};
 use graph_model::graph::Graph;
-use run_core::Core;
 
 /// The rule of the lock.
 pub struct Law;
 
-impl<'g> TableRule<Option<Core<'g>>, View, Graph> for Law {
+impl<'g> TableRule<Option<KeptCore<'g>>, View, Graph> for Law {
     ghost holds = { Guards };
 
     ghost first = { first_view };
@@ -20,14 +20,14 @@ impl<'g> TableRule<Option<Core<'g>>, View, Graph> for Law {
 /// The step that takes the turn where it is free.
 pub struct Takes;
 
-impl<'g> Play<Option<Core<'g>>, View> for Takes {
+impl<'g> Play<Option<KeptCore<'g>>, View> for Takes {
     ghost then = { λ _. turns };
 }
 
 /// The step that gives the turn back.
 pub struct Gives;
 
-impl<'g> Play<Option<Core<'g>>, View> for Gives {
+impl<'g> Play<Option<KeptCore<'g>>, View> for Gives {
     ghost then = { λ _ m _ n. HasGiven m n };
 }
 

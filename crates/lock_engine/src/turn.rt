@@ -7,6 +7,7 @@ ghost use Rattle.run_core.specs.Finishing.{NothingOut};
 ghost use Rattle.lock_engine.specs.Seats.{IsResting, view_of};
 ghost use Rattle.lock_engine.specs.Rule.{all_parts};
 
+use crate::kept_core::KeptCore;
 use crate::lock::take_seat;
 use crate::notes::Notes;
 use crate::plays::Law;
@@ -28,7 +29,7 @@ use std::thread::Threads;
 #[derive(Drop)]
 pub struct Turn<'g> {
     graph: &'g Graph,
-    table: Table<Option<Core<'g>>, View, Graph, Law, Global>,
+    table: Table<Option<KeptCore<'g>>, View, Graph, Law, Global>,
     badge: Badge<View>,
     notes: Notes,
 }
@@ -63,7 +64,8 @@ impl<'g> Turn<'g> {
         let graph = checked.graph();
         let notes = Notes::new(alloc, graph.lines())?;
         let core = Core::prepare(alloc, checked, slots)?;
-        let Ok(cores) = vec![in alloc; Some(core)] else {
+        let kept = KeptCore::new(alloc, core)?;
+        let Ok(cores) = vec![in alloc; Some(kept)] else {
             return Err(NoMemory);
         };
         match Table::new(alloc, &[0], cores, graph) {
@@ -111,7 +113,7 @@ pub fn run_turn<'g, R: Threads + Wait + Sync, G: Gate>(
 
 /// The core, once nobody else has a place at the lock.
 fn last_core<'g>(
-    table: Table<Option<Core<'g>>, View, Graph, Law, Global>,
+    table: Table<Option<KeptCore<'g>>, View, Graph, Law, Global>,
     badge: Badge<View>,
 ) -> Core<'g>
     requires resting { IsResting table.shared.table_id badge }
@@ -127,5 +129,5 @@ fn last_core<'g>(
         unreachable!()
     };
     closed.free();
-    core
+    core.into_core()
 }

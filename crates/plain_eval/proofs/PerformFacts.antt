@@ -6,7 +6,7 @@ use Rattle.std.proofs.lemmas.Option.{none-some, same_Some}
 use Rattle.std.proofs.lemmas.List.FromFn.{fill_by_all, get_or-map-range_with_len, length-map-range_with_len}
 use Rattle.index_spaces.specs.Space.{points}
 use Rattle.index_spaces.specs.Column.{ColumnValue}
-use Rattle.index_spaces.specs.Held.{held_at}
+use Rattle.index_spaces.specs.Held.{HeldList, held_at}
 use Rattle.graph_terms.specs.Fits.{IsGraph}
 use Rattle.graph_terms.specs.Graph.{GraphValue, columns, column_space}
 use Rattle.graph_meaning.specs.LineLaws.{AccessesFit}
@@ -14,7 +14,7 @@ use Rattle.graph_meaning.specs.Effect.{Cells, effect, cells_after}
 use Rattle.graph_meaning.specs.Evaluation.{column_of}
 use Rattle.graph_meaning.specs.Laws.{ChangesWithinAccesses}
 use Rattle.line_effects.specs.Homes.{all_home}
-use Rattle.line_effects.specs.Moved.{moves, HeldShow, AreMoved, AreBack}
+use Rattle.line_effects.specs.Moved.{moves, HeldShow, OwnsChanged, AreMoved, AreBack}
 use Rattle.line_effects.proofs.Public.{move_of, move_known}
 use Rattle.plain_eval.proofs.CellFacts.{other_cells, map_agree}
 
@@ -27,7 +27,11 @@ home_at g cells homes home c b = ap (λ xs. slice_index_or xs c None) home ∙ g
 pub is_home : AccessesFit → (g : GraphValue) → IsGraph g → (i : ℕ) (cells : Cells) (homes : List (Option ColumnValue)) → homes ≡ all_home g cells → (k c : ℕ) → slice_get (moves g i) k ≡ Some c → IsSome (slice_index_or homes c None)
 is_home fits g is i cells homes home k c at = ap is_some (home_at g cells homes home c (move_known fits g is i k c at))
 
-module _ (fits : AccessesFit) (g : GraphValue) (is : IsGraph g) (i : ℕ) (cells : Cells) (homes mid : List (Option ColumnValue)) (held : List (ℕ × ColumnValue)) (home : homes ≡ all_home g cells) (m : AreMoved g i homes mid held) where
+-- what is held is all of its own
+pub owns_moved : (g : GraphValue) (i : ℕ) (homes mid : List (Option ColumnValue)) (held : HeldList) → AreMoved g i homes mid held → OwnsChanged g i held
+owns_moved g i homes mid held m a listed changes = let at = move_of g i a listed in m.own at.0 a.column at.1
+
+module _ (fits : AccessesFit) (g : GraphValue) (is : IsGraph g) (i : ℕ) (cells : Cells) (homes mid : List (Option ColumnValue)) (held : HeldList) (home : homes ≡ all_home g cells) (m : AreMoved g i homes mid held) where
   is_held : (k c : ℕ) → slice_get (moves g i) k ≡ Some c → held_at held c ≡ Some (column_of g cells c)
   is_held k c at = m.has k c at ∙ home_at g cells homes home c (move_known fits g is i k c at)
 
@@ -38,11 +42,11 @@ module _ (fits : AccessesFit) (g : GraphValue) (is : IsGraph g) (i : ℕ) (cells
   held_shown c x h = let at = m.only c x h in same_Some x (column_of g cells c) (sym h ∙ is_held at.0 c at.1)
 
   -- after the effect, the same columns are held
-  pub still_held : (new : List (ℕ × ColumnValue)) → ((c : ℕ) → is_some (held_at new c) ≡ is_some (held_at held c)) → (k c : ℕ) → slice_get (moves g i) k ≡ Some c → IsSome (held_at new c)
+  pub still_held : (new : HeldList) → ((c : ℕ) → is_some (held_at new c) ≡ is_some (held_at held c)) → (k c : ℕ) → slice_get (moves g i) k ≡ Some c → IsSome (held_at new c)
   still_held new same k c at = same c ∙ all_held k c at
 
   -- and put back, all columns have the cells after the effect
-  pub all_back : ChangesWithinAccesses → (new : List (ℕ × ColumnValue)) (after : List (Option ColumnValue)) → ((c : ℕ) → is_some (held_at new c) ≡ is_some (held_at held c)) → HeldShow g (cells_after cells (effect g i cells).changes) new → AreBack g i new mid after →
+  pub all_back : ChangesWithinAccesses → (new : HeldList) (after : List (Option ColumnValue)) → ((c : ℕ) → is_some (held_at new c) ≡ is_some (held_at held c)) → HeldShow g (cells_after cells (effect g i cells).changes) new → AreBack g i new mid after →
       after ≡ all_home g (cells_after cells (effect g i cells).changes)
   all_back law new after same shown b = fill_by_all (λ c. Some (column_of g (cells_after cells (effect g i cells).changes) c)) after (length (columns g)) None (b.each ∙ (m.each ∙ count_home g cells homes home)) (λ c below. by_held c below (held_at held c) refl)
     where

@@ -1,9 +1,9 @@
 -- The accesses of a line, one after the other.
-use Rattle.std.proofs.Common.{◌≡◌, ℕ, zero, suc, ◌+◌, ◌<◌, ◌≤◌, ◌⊎◌, inl, inr, Bool, List, [], length, refl, sym, ◌∙◌, ap, subst, take, ◌∷◌, ◌++◌, arith}
+use Rattle.std.proofs.Common.{◌≡◌, ℕ, ◌+◌, ◌<◌, ◌≤◌, inl, inr, Bool, List, [], length, sym, ◌∙◌, ap, subst, take, ◌∷◌, ◌++◌, arith}
 use Rattle.std.specs.Prelude.{Some, Contains, ◌↔◌, IsTrue, slice_get, Vec}
 use Rattle.std.specs.Global.{Global}
 use Rattle.std.specs.List.{slice_index_or}
-use Rattle.std.proofs.lemmas.Option.{none-some, same_Some, slice_get_within, get_or_from_slice_get, slice_get-get_or}
+use Rattle.std.proofs.lemmas.Option.{slice_get_within, get_or_from_slice_get, slice_get-get_or}
 use Rattle.std.proofs.lemmas.List.{take_more, take_all}
 use Rattle.graph_terms.specs.declared.verb.Access.{Access}
 use Rattle.graph_terms.specs.Graph.{GraphValue}

@@ -1,18 +1,16 @@
 -- Lines that race with none, by the lines that are noted.
-use Rattle.std.proofs.Common.{◌≡◌, ℕ, zero, suc, ◌+◌, ◌-◌, ◌<◌, ◌≤◌, ◌⊎◌, Bool, true, false, inl, inr, List, [], ◌∷◌, length, sym, ◌∙◌, ap, subst, arith}
-use Rattle.std.specs.Prelude.{slice_set}
-use Rattle.std.specs.List.{slice_index_or}
-use Rattle.std.proofs.lemmas.Bool.{true≢false, cases_Bool, cases_eq, cases_lt}
-use Rattle.std.proofs.lemmas.List.{get_or_past, get_or-set_same, get_or-set_other}
+use Rattle.std.proofs.Common.{◌≡◌, ℕ, ◌+◌, ◌-◌, ◌<◌, ◌≤◌, ◌⊎◌, Bool, true, false, inl, inr, List, length, sym, ◌∙◌, subst, arith}
+use Rattle.std.proofs.lemmas.Bool.{true≢false, cases_lt}
+use Rattle.std.proofs.lemmas.List.{get_or_past}
 use Rattle.graph_terms.specs.Graph.{GraphValue}
 use Rattle.graph_meaning.specs.Rules.{Everywhere, EverywhereTwice, RaceAt}
-use Rattle.race_sweeps.specs.Enough.{AreEnough}
-use Rattle.sweep_base.specs.Noted.{AreStillNoted, is_noted}
+use Rattle.race_sweeps.specs.Enough.{AreEnough, AreSettledBelow}
+use Rattle.sweep_base.specs.Noted.{is_noted}
 use Rattle.conflict_classes.specs.Settled.{IsSettled}
 use Rattle.conflict_classes.proofs.Public.{settled_back}
 use Rattle.cycle_search.specs.Paths.{EdgesBetween}
-use Rattle.sweep_base.specs.BlockRules.{HoldsIn, IsLeast}
-use Rattle.race_pairs.specs.Topmost.{AreMarked, races_with}
+use Rattle.sweep_base.specs.BlockRules.{IsLeast}
+use Rattle.race_pairs.specs.Topmost.{NoneRaceBelow, races_with}
 use Rattle.race_pairs.proofs.BeyondLines.{race_beyond, settled_beyond}
 
 pub noted_below : (racing : List Bool) (n r : ℕ) → length racing ≡ n → is_noted racing r ≡ true → r < n
@@ -70,55 +68,9 @@ later_beyond g between j i beyond = race_beyond g i j (elim beyond [ inl h ↦ i
 pub later_above : (g : GraphValue) (first : ℕ) → ((k : ℕ) → k < first → Everywhere (RaceAt g k)) → (k : ℕ) → k < first → Everywhere (races_with g k)
 later_above g first above k h i low = above i (omega (arith, h, low)) k low
 
--- lines without a mark
-pub unmarked_before : (old new : List Bool) (k : ℕ) → AreStillNoted old new → is_noted new k ≡ false → is_noted old k ≡ false
-unmarked_before old new k still none = elim (cases_Bool (is_noted old k)) [ inl noted ↦ absurd (true≢false (sym (still k noted) ∙ none)) | inr f ↦ f ]
-
-pub set_marked : (marks : List Bool) (i : ℕ) → i < length marks → is_noted (slice_set marks i true) i ≡ true
-set_marked marks i h = get_or-set_same marks i true false h
-
-pub set_keeps : (marks : List Bool) (i : ℕ) → i < length marks → AreStillNoted marks (slice_set marks i true)
-set_keeps marks i h k noted = elim (cases_eq k i) [
-  | inl same ↦ ap (is_noted (slice_set marks i true)) same ∙ set_marked marks i h
-  | inr apart ↦ get_or-set_other marks i k true false apart ∙ noted
-]
-
-pub all_marked : (g : GraphValue) (marks : List Bool) → length marks ≡ length g.lines → ((i : ℕ) → slice_index_or marks i true ≡ true) → AreMarked g marks
-all_marked g marks size each k none j = elim (cases_lt k (length marks)) [
-  | inl low ↦ absurd (true≢false (sym (get_or_any marks k low (each k)) ∙ none))
-  | inr up ↦ settled_beyond g k j (omega (arith, up, size))
-]
-  where
-    get_or_any : (xs : List Bool) (k : ℕ) → k < length xs → slice_index_or xs k true ≡ true → is_noted xs k ≡ true
-    get_or_any [] k low h = absurd (omega (arith, low))
-    get_or_any (x ∷ xs) zero low h = h
-    get_or_any (x ∷ xs) (suc k) low h = get_or_any xs k (let b : suc k < length (x ∷ xs) = low in omega arith) h
-
-pub marked_by_noted : (g : GraphValue) (noted marks : List Bool) (n : ℕ) → length g.lines ≤ n → length noted ≡ length g.lines → AreEnough g noted
-    → ((k r : ℕ) → is_noted marks k ≡ false → r < n → is_noted noted r ≡ true → IsSettled g r k) → AreMarked g marks
-marked_by_noted g noted marks n all size enough settled k none = enough k (λ r h. settled k r none (let low : r < length g.lines = noted_below noted (length g.lines) r size h in omega (arith, low, all)) h)
-
--- a block after the others
-pub marks_more : (g : GraphValue) (noted old new : List Bool) (first : ℕ) → AreStillNoted old new → ((k r : ℕ) → is_noted old k ≡ false → r < first → is_noted noted r ≡ true → IsSettled g r k)
-    → ((k r : ℕ) → is_noted new k ≡ false → first ≤ r → r < first + 64 → is_noted noted r ≡ true → IsSettled g r k) → (k r : ℕ) → is_noted new k ≡ false → r < first + 64 → is_noted noted r ≡ true → IsSettled g r k
-marks_more g noted old new first still before here k r none end h = elim (cases_lt r first) [
-  | inl low ↦ before k r (unmarked_before old new k still none) low h
-  | inr up ↦ here k r none up end h
-]
-
-pub marks_block : (g : GraphValue) (noted marks : List Bool) (first : ℕ) → ((k b : ℕ) → is_noted marks k ≡ false → b < 64 → is_noted noted (first + b) ≡ true → IsSettled g (first + b) k)
-    → (k r : ℕ) → is_noted marks k ≡ false → first ≤ r → r < first + 64 → is_noted noted r ≡ true → IsSettled g r k
-marks_block g noted marks first settled k r none begins ends = subst (λ z. is_noted noted z ≡ true → IsSettled g z k) (let e : first + (r - first) ≡ r = omega arith in e) (settled k (r - first) none (omega arith))
-
--- a block of which no line is marked
-pub unmarked_holds : (g : GraphValue) (marks : List Bool) (first end : ℕ) → AreMarked g marks → EdgesBetween g → (length g.lines ≤ end) ⊎ (first + 64 ≤ end) → ((i : ℕ) → first ≤ i → i < end → is_noted marks i ≡ false) → HoldsIn (races_with g) first (length g.lines)
-unmarked_holds g marks first end marked between all none b m few low = elim (cases_lt (first + b) end) [
-  | inl before ↦ later_settled g (first + b) m (λ h. marked (first + b) (none (first + b) (omega arith) before) m)
-  | inr up ↦ elim all [
-    | inl lines ↦ later_beyond g between (first + b) m (inl (omega (arith, lines, up)))
-    | inr block ↦ absurd (omega (arith, block, up, few))
-  ]
-]
+-- where no two lines below a limit race
+pub later_free : (g : GraphValue) (limit : ℕ) → AreSettledBelow g limit → NoneRaceBelow g limit
+later_free g limit settled k low i above = settled i k (omega (arith, above, low)) low
 
 -- where the lines of a block were tried with those above the end of it
 pub least_above : (g : GraphValue) → EdgesBetween g → (first limit found end : ℕ) → end ≤ length g.lines → (length g.lines ≤ end) ⊎ (first + 64 ≤ end) → IsLeast (races_with g) first limit found end → IsLeast (races_with g) first limit found (length g.lines)

@@ -6,3 +6,4 @@ pub mod ExemptSummary
 pub mod Asking
 pub mod Public
 pub mod AccessLists
+mod Chains

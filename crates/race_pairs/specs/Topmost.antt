@@ -1,14 +1,12 @@
--- Races by their later lines, and the lines that may race.
-use Rattle.std.specs.Prelude.{◌≡◌, ℕ, false, Bool, List}
+-- Races by their later lines.
+use Rattle.std.specs.Prelude.{ℕ, ◌<◌}
 use Rattle.graph_terms.specs.Graph.{GraphValue}
-use Rattle.graph_meaning.specs.Rules.{RaceAt}
-use Rattle.conflict_classes.specs.Settled.{IsSettled}
-use Rattle.sweep_base.specs.Noted.{is_noted}
+use Rattle.graph_meaning.specs.Rules.{Everywhere, RaceAt}
 
 -- the rule of races, by the later line
 abbrev pub races_with : GraphValue → ℕ → ℕ → Type 0
 races_with g j i = RaceAt g i j
 
--- a line without a mark is settled with all
-abbrev pub AreMarked : GraphValue → List Bool → Type 0
-AreMarked g marks = (k : ℕ) → is_noted marks k ≡ false → (j : ℕ) → IsSettled g k j
+-- no line above line n races with one above itself
+abbrev pub NoneRaceBelow : GraphValue → ℕ → Type 0
+NoneRaceBelow g n = (k : ℕ) → k < n → Everywhere (races_with g k)

@@ -2,6 +2,7 @@
 #![tactic(auto)]
 
 mod block_conflicts;
+mod chained;
 mod common_sections;
 mod conflicts;
 mod races;

@@ -75,7 +75,7 @@ fn unnoted_lines(racing: &[bool], lines: u32) -> u32
 }
 
 /// How many blocks of 64 lines have a noted one.
-pub(crate) fn noted_blocks(graph: &Graph, racing: &[bool]) -> u32
+fn noted_blocks(graph: &Graph, racing: &[bool]) -> u32
     requires { length racing.now ≡ length graph.now.lines }
 {
     let lines = graph.lines();

@@ -150,7 +150,7 @@ impl Rivals {
     }
 
     /// Whether a noted line of the block races with this one.
-    pub(crate) fn has_rival(
+    fn has_rival(
         &self,
         graph: &Graph,
         accesses: &[Vec<Access>],

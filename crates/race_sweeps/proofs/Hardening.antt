@@ -17,10 +17,10 @@ use Rattle.race_sweeps.specs.Scan.{HasHard, IsHardTo}
 pub near_read : (near : List (Vec ℕ Global)) (c : ℕ) (v : Vec ℕ Global) (xs : List ℕ) (i : ℕ) → c < length near → v ≡ slice_index_or near c v → xs ≡ v.items → i < length xs → IsNear near c (slice_index xs i)
 near_read near c v xs i small at is h = (v, slice_get_read near (length near) c v refl small at, subst (λ ys. Contains ys (slice_index xs i)) is (Contains-get_or xs i 0 h))
 
-pub same_use : (g : GraphValue) (i : ℕ) (a b : Access) → b.column ≡ a.column → b.space ≡ a.space → HasHard g i a.column a.space → HasHard g i b.column b.space
-same_use g i a b column space h = record { access = h.access; listed = h.listed; column_is = h.column_is ∙ sym column; space_is = h.space_is ∙ sym space; hard = h.hard }
+pub same_use : (g : GraphValue) (limit i : ℕ) (a b : Access) → b.column ≡ a.column → b.space ≡ a.space → HasHard g limit i a.column a.space → HasHard g limit i b.column b.space
+same_use g limit i a b column space h = record { below = h.below; access = h.access; listed = h.listed; column_is = h.column_is ∙ sym column; space_is = h.space_is ∙ sym space; hard = h.hard }
 
-pub hard_set : (g : GraphValue) (t : Table) (hard : List ℕ) (end c place : ℕ) → c < length t.keys.items → place < end → ((a : Access) → slice_get t.keys.items c ≡ Some a → HasHard g (slice_index t.lines.items place) a.column a.space) →
+pub hard_set : (g : GraphValue) (t : Table) (hard : List ℕ) (end c place : ℕ) → c < length t.keys.items → place < end → ((a : Access) → slice_get t.keys.items c ≡ Some a → HasHard g t.limit (slice_index t.lines.items place) a.column a.space) →
     IsHardTo g t hard end → IsHardTo g t (slice_set hard c place) end
 hard_set g t hard end c place known small has h = record {
   size = length-set hard c place ∙ h.size;
@@ -29,8 +29,8 @@ hard_set g t hard end c place known small has h = record {
     | inr apart ↦ (let e : slice_index (slice_set hard c place) d ≡ slice_index hard d = other d apart in let b : slice_index hard d < end = h.below d (omega arith) in omega arith)
   ];
   is = λ d a key some. elim (cases_eq d c) [
-    | inl same ↦ subst (λ z. HasHard g (slice_index t.lines.items z) a.column a.space) (sym (ap (slice_index (slice_set hard c place)) same ∙ here)) (has a (subst (λ z. slice_get t.keys.items z ≡ Some a) same key))
-    | inr apart ↦ subst (λ z. HasHard g (slice_index t.lines.items z) a.column a.space) (sym (other d apart)) (h.is d a key (let e : slice_index (slice_set hard c place) d ≡ slice_index hard d = other d apart in omega arith))
+    | inl same ↦ subst (λ z. HasHard g t.limit (slice_index t.lines.items z) a.column a.space) (sym (ap (slice_index (slice_set hard c place)) same ∙ here)) (has a (subst (λ z. slice_get t.keys.items z ≡ Some a) same key))
+    | inr apart ↦ subst (λ z. HasHard g t.limit (slice_index t.lines.items z) a.column a.space) (sym (other d apart)) (h.is d a key (let e : slice_index (slice_set hard c place) d ≡ slice_index hard d = other d apart in omega arith))
   ];
 }
   where

@@ -2,6 +2,7 @@
 use Rattle.std.proofs.Common.{◌≡◌, ℕ, ◌<◌, ◌≤◌, inl, inr, List, length, refl, subst, arith}
 use Rattle.std.specs.Prelude.{Option, Some, None, slice_get, slice_index}
 use Rattle.std.proofs.lemmas.Bool.{cases_lt}
+use Rattle.std.proofs.lemmas.Option.{slice_get_within}
 use Rattle.graph_terms.specs.declared.verb.Access.{Access}
 use Rattle.graph_terms.specs.Graph.{GraphValue}
 use Rattle.conflict_classes.specs.Classes.{AreClasses, IsBegin, place_at}
@@ -30,6 +31,6 @@ begins_ascend sites p q m n one two le = elim (cases_lt n m) [
 ]
 
 -- a member with a hard access
-pub member_hard : (g : GraphValue) (lines : List ℕ) (keys : List Access) (classes sites begins : List ℕ) → AreClasses g lines keys classes sites begins → (m c : ℕ) (a : Access) → slice_get classes m ≡ Some c → slice_get keys c ≡ Some a →
-    IsHard g (slice_index lines (place_at sites m)) a.mode → HasHard g (slice_index lines (place_at sites m)) a.column a.space
-member_hard g lines keys classes sites begins are m c a is key hard = record { access = a; listed = are.own m c a is key; column_is = refl; space_is = refl; hard = hard }
+pub member_hard : (g : GraphValue) (limit : ℕ) (lines : List ℕ) (keys : List Access) (classes sites begins : List ℕ) → AreClasses g limit lines keys classes sites begins → (m c : ℕ) (a : Access) → slice_get classes m ≡ Some c → slice_get keys c ≡ Some a →
+    IsHard g (slice_index lines (place_at sites m)) a.mode → HasHard g limit (slice_index lines (place_at sites m)) a.column a.space
+member_hard g limit lines keys classes sites begins are m c a is key hard = record { below = are.limited m (let low : m < length classes = slice_get_within classes m c is in let size : length sites ≡ length classes = are.numbered.size in omega arith); access = a; listed = are.own m c a is key; column_is = refl; space_is = refl; hard = hard }

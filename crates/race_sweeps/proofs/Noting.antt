@@ -21,8 +21,8 @@ with_still g lines old new first x word still h b low there set up = settled_sti
 pub walked_still : (g : GraphValue) (t : Table) (old new : List Bool) (first limit : ℕ) (m : Mark) → AreStillNoted old new → IsWalked g t old first limit m → IsWalked g t new first limit m
 walked_still g t old new first limit m still h r low class above = with_still g t.lines.items old new first (place_at t.sites.items r) m.word still (h r low class above)
 
-pub answered_still : (g : GraphValue) (lines : List ℕ) (old new : List Bool) (u : ℕ) → AreStillNoted old new → AreAnsweredAt g lines old u → AreAnsweredAt g lines new u
-answered_still g lines old new u still h x a b low ha hb c = elim (h x a b low ha hb c) [ inl one ↦ inl (settled_still g old new _ _ still one) | inr rest ↦ inr rest ]
+pub answered_still : (g : GraphValue) (limit : ℕ) (lines : List ℕ) (old new : List Bool) (u : ℕ) → AreStillNoted old new → AreAnsweredAt g limit lines old u → AreAnsweredAt g limit lines new u
+answered_still g limit lines old new u still h x a b low one two ha hb c = elim (h x a b low one two ha hb c) [ inl one ↦ inl (settled_still g old new _ _ still one) | inr rest ↦ inr rest ]
 
 -- a line that is noted
 pub set_noted : (racing : List Bool) (i : ℕ) → i < length racing → is_noted (slice_set racing i true) i ≡ true

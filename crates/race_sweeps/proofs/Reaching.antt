@@ -1,20 +1,15 @@
 -- What is reached, edge by edge.
 use Rattle.std.proofs.Common.{◌≡◌, ℕ, ◌+◌, ◌<◌, true, inl, inr, List, length, sym, ◌∙◌, ap, subst, arith}
-use Rattle.std.specs.Prelude.{Contains, slice_index, slice_set, ◌==◌}
+use Rattle.std.specs.Prelude.{Contains, slice_index, slice_set}
 use Rattle.std.specs.List.{slice_index_or}
 use Rattle.std.specs.Int.RustNames.{bit_or}
-use Rattle.std.proofs.lemmas.Bool.{cases_eq, or_cases, eqb-true, true≢false, ne_eqb}
+use Rattle.std.proofs.lemmas.Bool.{cases_eq, or_cases, true≢false, ne_eqb}
 use Rattle.std.proofs.lemmas.Nat.Bits.{bit_at-zero}
 use Rattle.std.proofs.lemmas.List.{length-set, get_or-set_same, get_or-set_other, get_or_read}
-use Rattle.std.proofs.lemmas.List.Elements.{Contains-get_or}
 use Rattle.graph_terms.specs.declared.verb.Edge.{Edge}
-use Rattle.graph_terms.specs.declared.verb.EdgeKind.TheVariants.{Passes}
 use Rattle.graph_terms.specs.Graph.{GraphValue}
-use Rattle.graph_terms.specs.Edges.{edges, edges_into}
-use Rattle.graph_terms.specs.Fits.{IsGraph}
-use Rattle.graph_meaning.specs.Laws.{EdgesBetweenLines}
+use Rattle.graph_terms.specs.Edges.{edges}
 use Rattle.graph_meaning.specs.Path.{HasPath, last, first}
-use Rattle.basics.proofs.ListFacts.{filter_contains}
 use Rattle.sweep_base.specs.Bits.{bit_in}
 use Rattle.race_sweeps.specs.Reach.{AreReachedOrSelf, IsReach}
 use Rattle.sweep_base.proofs.Public.{bit_in-or}

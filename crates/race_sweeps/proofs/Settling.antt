@@ -1,7 +1,8 @@
 -- A line that is settled with the lines noted is settled with all: a hard access between two lines has a path from the one and to the other.
 use Rattle.std.proofs.Common.{◌≡◌, ℕ, zero, suc, ◌+◌, ◌<◌, ◌≤◌, ◌⊎◌, Bool, true, false, not, inl, inr, List, length, refl, sym, ◌∙◌, ap, subst, arith}
 use Rattle.std.specs.Prelude.{◌≢◌, Contains, IsTrue, slice_index}
-use Rattle.std.proofs.lemmas.Bool.{true≢false, cases_order}
+use Rattle.std.proofs.lemmas.Bool.{true≢false, cases_lt, cases_order}
+use Rattle.std.proofs.lemmas.List.{get_or_past}
 use Rattle.index_spaces.specs.Space.{has_point}
 use Rattle.graph_terms.specs.declared.verb.Access.{Access}
 use Rattle.graph_terms.specs.declared.verb.Mode.{Mode}
@@ -13,11 +14,11 @@ use Rattle.graph_terms.specs.Fits.{IsGraph}
 use Rattle.graph_meaning.specs.Laws.{EdgesBetweenLines}
 use Rattle.graph_meaning.specs.Path.{Path, HasPath, last, first}
 use Rattle.graph_meaning.specs.Rules.{modes_commute}
-use Rattle.graph_meaning.proofs.Public.{path_append, conflict_back, commute_back, lines_back, exempt_back}
+use Rattle.graph_meaning.proofs.Public.{path_append, conflict_back, commute_back}
 use Rattle.sweep_base.specs.Placed.{IsPlaced}
 use Rattle.race_sweeps.specs.Scan.{IsHard, HasHard, AreAnsweredAt}
 use Rattle.conflict_classes.specs.Settled.{IsSettled}
-use Rattle.race_sweeps.specs.Enough.{AreEnough}
+use Rattle.race_sweeps.specs.Enough.{AreEnough, AreEnoughBelow, AreSettledBelow}
 use Rattle.sweep_base.specs.Noted.{is_noted}
 use Rattle.sweep_base.specs.Held.{LieApart}
 use Rattle.race_sweeps.proofs.Conflicts.{apart_back, lines_decided}
@@ -130,10 +131,11 @@ module _ (g : GraphValue) (fits : IsGraph g) (between : EdgesBetweenLines) (line
   path_from_hard w u h b low high hard (inr (inl back)) = (let up : u < w = forward back u w high (omega arith) refl refl in absurd (omega arith))
   path_from_hard w u h b low high hard (inr (inr both)) = absurd (not_apart g (at u) (at w) b h hard (commute_back b.mode h.mode ∙ both.0) (apart_back g (at w) (at u) both.1))
 
-  module _ (racing : List Bool) (answered : (u : ℕ) → u < length lines → AreAnsweredAt g lines racing u) (p : ℕ) (known : p < length lines) (with_noted : (r : ℕ) → is_noted racing r ≡ true → IsSettled g (at p) r)
+  module _ (limit : ℕ) (racing : List Bool) (answered : (u : ℕ) → u < length lines → AreAnsweredAt g limit lines racing u) (p : ℕ) (known : p < length lines) (under : at p < limit) (with_noted : (r : ℕ) → is_noted racing r ≡ true → IsSettled g (at p) r)
       (a : Access) (ha : Contains (all_accesses g (at p)) a) where
     -- an access of line z that lies between two that conflict, and conflicts with each of them and with a
     record IsBetween (z : ℕ) (h k : Access) : Type 0 where
+      below : z < limit
       access : Access
       listed : Contains (all_accesses g z) access
       hard : IsHard g z access.mode
@@ -145,8 +147,9 @@ module _ (g : GraphValue) (fits : IsGraph g) (between : EdgesBetweenLines) (line
     abbrev IsBound : Access → Type 0
     IsBound h = (h ≡ a) ⊎ AccessesConflict g a h
 
-    is_between : (z : ℕ) (h k : Access) → IsBound h → AccessesConflict g h k → AccessesConflict g a k → HasHard g z h.column h.space ⊎ HasHard g z k.column k.space → IsBetween z h k
+    is_between : (z : ℕ) (h k : Access) → IsBound h → AccessesConflict g h k → AccessesConflict g a k → HasHard g limit z h.column h.space ⊎ HasHard g limit z k.column k.space → IsBetween z h k
     is_between z h k bound c own (inr m) = record {
+      below = m.below;
       access = m.access;
       listed = m.listed;
       hard = m.hard;
@@ -157,6 +160,7 @@ module _ (g : GraphValue) (fits : IsGraph g) (between : EdgesBetweenLines) (line
     is_between z h k bound c own (inl m) =
         let one : AccessesConflict g h m.access = same_conflict g z h k m.access c m.column_is m.space_is m.hard in
         record {
+          below = m.below;
           access = m.access;
           listed = m.listed;
           hard = m.hard;
@@ -180,9 +184,9 @@ module _ (g : GraphValue) (fits : IsGraph g) (between : EdgesBetweenLines) (line
     go_on y w h k low high (inl same) fine = subst (λ x. IsFine g (at x) (at w) a k) same.0 (subst (λ x. IsFine g (at y) (at w) x k) same.1 fine)
     go_on y w h k low high (inr hard) fine = inl (path_append hard.2 (path_from_hard y w h k low high hard.1 fine))
 
-    fine_ahead : (d y w : ℕ) (h k : Access) → y < w → w < length lines → w ≤ y + d → p ≤ y → Contains (all_accesses g (at y)) h → Contains (all_accesses g (at w)) k → AccessesConflict g h k → AccessesConflict g a k → IsAhead y h → IsFine g (at p) (at w) a k
-    fine_ahead zero y w h k low high near from hh hk c own ahead = absurd (omega arith)
-    fine_ahead (suc d) y w h k low high near from hh hk c own ahead = elim (answered w high y h k low hh hk c) [
+    fine_ahead : (d y w : ℕ) (h k : Access) → y < w → w < length lines → at y < limit → at w < limit → w ≤ y + d → p ≤ y → Contains (all_accesses g (at y)) h → Contains (all_accesses g (at w)) k → AccessesConflict g h k → AccessesConflict g a k → IsAhead y h → IsFine g (at p) (at w) a k
+    fine_ahead zero y w h k low high uy uw near from hh hk c own ahead = absurd (omega arith)
+    fine_ahead (suc d) y w h k low high uy uw near from hh hk c own ahead = elim (answered w high y h k low uy uw hh hk c) [
       | inl (inl settled) ↦ go_on y w h k low high ahead (fine_by g (at y) (at w) h k (λ same. placed.distinct y w low high same) hh hk c settled)
       | inl (inr both) ↦ fine_by g (at p) (at w) a k (λ same. placed.distinct p w (omega arith) high same) ha hk own (with_noted (at w) both.1)
       | inr (inl both) ↦ go_on y w h k low high ahead (inr (inr both))
@@ -191,8 +195,8 @@ module _ (g : GraphValue) (fits : IsGraph g) (between : EdgesBetweenLines) (line
           let up : y < z = hard.1 in
           let down : z < w = hard.2 in
           let m = is_between (at z) h k (ahead_bound y h ahead) c own hard.3 in
-          let path = path_to_hard p z a m.access (omega arith) (omega arith) m.hard (fine_ahead d y z h m.access up (omega arith) (omega arith) from hh m.listed m.one m.own ahead) in
-          fine_ahead d z w m.access k down high (omega arith) (omega arith) m.listed hk (conflict_back g k m.access m.other) own (inr (omega arith, m.hard, path, m.own)))
+          let path = path_to_hard p z a m.access (omega arith) (omega arith) m.hard (fine_ahead d y z h m.access up (omega arith) uy m.below (omega arith) from hh m.listed m.one m.own ahead) in
+          fine_ahead d z w m.access k down high m.below uw (omega arith) (omega arith) m.listed hk (conflict_back g k m.access m.other) own (inr (omega arith, m.hard, path, m.own)))
     ]
 
     -- the same before it
@@ -207,11 +211,11 @@ module _ (g : GraphValue) (fits : IsGraph g) (between : EdgesBetweenLines) (line
     go_back w y k h low high (inl same) fine = subst (λ x. IsFine g (at x) (at w) a k) same.0 (subst (λ x. IsFine g (at y) (at w) x k) same.1 (fine_back g (at w) (at y) k h fine))
     go_back w y k h low high (inr hard) fine = inr (inl (path_append (path_to_hard w y k h low high hard.1 fine) hard.2))
 
-    fine_behind : (d w y : ℕ) (k h : Access) → w < y → y ≤ p → y ≤ w + d → Contains (all_accesses g (at w)) k → Contains (all_accesses g (at y)) h → AccessesConflict g k h → AccessesConflict g a k → IsBehind y h → IsFine g (at p) (at w) a k
-    fine_behind zero w y k h low to near hk hh c own behind = absurd (omega arith)
-    fine_behind (suc d) w y k h low to near hk hh c own behind =
+    fine_behind : (d w y : ℕ) (k h : Access) → w < y → y ≤ p → at w < limit → at y < limit → y ≤ w + d → Contains (all_accesses g (at w)) k → Contains (all_accesses g (at y)) h → AccessesConflict g k h → AccessesConflict g a k → IsBehind y h → IsFine g (at p) (at w) a k
+    fine_behind zero w y k h low to uw uy near hk hh c own behind = absurd (omega arith)
+    fine_behind (suc d) w y k h low to uw uy near hk hh c own behind =
         let high : y < length lines = omega (arith, known) in
-        elim (answered y high w k h low hk hh c) [
+        elim (answered y high w k h low uw uy hk hh c) [
           | inl (inl settled) ↦ go_back w y k h low high behind (fine_by g (at w) (at y) k h (λ same. placed.distinct w y low high same) hk hh c settled)
           | inl (inr both) ↦ fine_by g (at p) (at w) a k (λ same. placed.distinct w p (omega arith) known (sym same)) ha hk own (with_noted (at w) both.0)
           | inr (inl both) ↦ go_back w y k h low high behind (inr (inr both))
@@ -221,21 +225,36 @@ module _ (g : GraphValue) (fits : IsGraph g) (between : EdgesBetweenLines) (line
               let down : z < y = hard.2 in
               let m = is_between (at z) h k (behind_bound y h behind) (conflict_back g k h c) own (elim hard.3 [ inl x ↦ inr x | inr x ↦ inl x ]) in
               let path = path_from_hard z p m.access a (omega arith) known m.hard (fine_back g (at p) (at z) a m.access
-              (fine_behind d z y m.access h down to (omega arith) m.listed hh (conflict_back g h m.access m.one) m.own behind)) in
-              fine_behind d w z k m.access up (omega arith) (omega arith) hk m.listed m.other own (inr (omega arith, m.hard, path, m.own)))
+              (fine_behind d z y m.access h down to m.below uy (omega arith) m.listed hh (conflict_back g h m.access m.one) m.own behind)) in
+              fine_behind d w z k m.access up (omega arith) uw m.below (omega arith) hk m.listed m.other own (inr (omega arith, m.hard, path, m.own)))
         ]
 
-  module _ (racing : List Bool) (answered : (u : ℕ) → u < length lines → AreAnsweredAt g lines racing u) where
-    settled_at : (p q : ℕ) → p < length lines → q < length lines → (p ≡ q → ⊥) → ((r : ℕ) → is_noted racing r ≡ true → IsSettled g (at p) r) → IsSettled g (at p) (at q)
-    settled_at p q hp hq apart with_noted = settled_all g (at p) (at q) (λ a b ha hb c. elim (cases_order p q) [
+  module _ (limit : ℕ) (racing : List Bool) (answered : (u : ℕ) → u < length lines → AreAnsweredAt g limit lines racing u) where
+    settled_at : (p q : ℕ) → p < length lines → q < length lines → at p < limit → at q < limit → (p ≡ q → ⊥) → ((r : ℕ) → is_noted racing r ≡ true → IsSettled g (at p) r) → IsSettled g (at p) (at q)
+    settled_at p q hp hq up uq apart with_noted = settled_all g (at p) (at q) (λ a b ha hb c. elim (cases_order p q) [
       | inl same ↦ absurd (apart same)
-      | inr (inl before) ↦ fine_ahead racing answered p hp with_noted a ha q p q a b before hq (omega arith) (omega arith) ha hb c c (inl (refl, refl))
-      | inr (inr behind) ↦ fine_behind racing answered p hp with_noted a ha p q p b a behind (omega arith) (omega arith) hb ha (conflict_back g a b c) c (inl (refl, refl))
+      | inr (inl before) ↦ fine_ahead limit racing answered p hp up with_noted a ha q p q a b before hq up uq (omega arith) (omega arith) ha hb c c (inl (refl, refl))
+      | inr (inr behind) ↦ fine_behind limit racing answered p hp up with_noted a ha p q p b a behind (omega arith) uq up (omega arith) hb ha (conflict_back g a b c) c (inl (refl, refl))
     ])
 
-    pub enough_noted : AreEnough g racing
-    enough_noted i with_noted j c =
+    pub enough_noted : AreEnoughBelow g limit racing
+    enough_noted i ui with_noted j uj c =
         let p = placed.each i (access_there g i c.one c.one_in) in
         let q = placed.each j (access_there g j c.other c.other_in) in
         let apart : p.0 ≡ q.0 → ⊥ = λ same. c.different (sym p.2 ∙ (ap at same ∙ q.2)) in
-        subst (λ z. IsSettled g z j) p.2 (subst (λ z. IsSettled g (at p.0) z) q.2 (settled_at p.0 q.0 p.1 q.1 apart (λ r noted. subst (λ z. IsSettled g z r) (sym p.2) (settled_back g r i (with_noted r noted))))) c
+        subst (λ z. IsSettled g z j) p.2 (subst (λ z. IsSettled g (at p.0) z) q.2 (settled_at p.0 q.0 p.1 q.1 (subst (λ z. z < limit) (sym p.2) ui) (subst (λ z. z < limit) (sym q.2) uj) apart (λ r noted. subst (λ z. IsSettled g z r) (sym p.2) (settled_back g r i (with_noted r noted))))) c
+
+-- below as many as there are lines, all are
+pub enough_of_all : (g : GraphValue) (limit : ℕ) (racing : List Bool) → limit ≡ length g.lines → AreEnoughBelow g limit racing → AreEnough g racing
+enough_of_all g limit racing all enough i with_noted j c =
+    let low : i < length g.lines = access_there g i c.one c.one_in in
+    let high : j < length g.lines = access_there g j c.other c.other_in in
+    enough i (omega (arith, low, all)) with_noted j (omega (arith, high, all)) c
+
+-- where none is noted
+pub settled_where_none : (g : GraphValue) (limit n : ℕ) (racing : List Bool) → length racing ≡ n → ((r : ℕ) → 0 ≤ r → r < n → is_noted racing r ≡ false) → AreEnoughBelow g limit racing → AreSettledBelow g limit
+settled_where_none g limit n racing size none enough i j low high =
+    enough i low (λ r noted. elim (cases_lt r n) [
+      | inl l ↦ absurd (true≢false (sym noted ∙ none r (omega arith) l))
+      | inr up ↦ absurd (true≢false (sym noted ∙ get_or_past racing r false (omega (arith, up, size))))
+    ]) j high

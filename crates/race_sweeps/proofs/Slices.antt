@@ -55,12 +55,12 @@ module _ (g : GraphValue) (t : Table) (is : IsTable g t) (racing : List Bool) (h
     )
   ]
 
-  pub slice_answered : (u : ℕ) → first ≤ u → u < end → AreAnsweredAt g t.lines.items racing u
-  slice_answered u low high x a b before ha hb conflict =
+  pub slice_answered : (u : ℕ) → first ≤ u → u < end → AreAnsweredAt g t.limit t.lines.items racing u
+  slice_answered u low high x a b before x_below u_below ha hb conflict =
       let lines = t.lines.items in
       let are = is.classes_are in
-      let one = are.each x a (omega arith) ha in
-      let two = are.each u b (omega arith) hb in
+      let one = are.each x a (omega arith) x_below ha in
+      let two = are.each u b (omega arith) u_below hb in
       let r = one.number in
       let s = two.number in
       let d = one.class in

@@ -19,19 +19,20 @@ use Rattle.race_sweeps.specs.Enough.{IsSettledOrNoted}
 abbrev pub IsHard : GraphValue → ℕ → Mode → Type 0
 IsHard g i mode = (mode ≡ Write) ⊎ ((is_reduction mode ≡ true) × ((l q : ℕ) → Section g l q i → ⊥))
 
--- line i has such an access of a column and a space
-pub record HasHard (g : GraphValue) (i column space : ℕ) : Type 0 where
+-- line i stands below a limit and has such an access of a column and a space
+pub record HasHard (g : GraphValue) (limit i column space : ℕ) : Type 0 where
+  pub below : i < limit
   pub access : Access
   pub listed : Contains (all_accesses g i) access
   pub column_is : access.column ≡ column
   pub space_is : access.space ≡ space
   pub hard : IsHard g i access.mode
 
--- a number above 0 kept for a class is a place before `limit` with a hard access of the class's column and space
-pub record IsHardTo (g : GraphValue) (t : Table) (hard : List ℕ) (limit : ℕ) : Type 0 where
+-- a number above 0 kept for a class is a place before `end` with a hard access of the class's column and space
+pub record IsHardTo (g : GraphValue) (t : Table) (hard : List ℕ) (end : ℕ) : Type 0 where
   pub size : length hard ≡ length t.keys.items
-  pub below : (c : ℕ) → 0 < slice_index hard c → slice_index hard c < limit
-  pub is : (c : ℕ) (a : Access) → slice_get t.keys.items c ≡ Some a → 0 < slice_index hard c → HasHard g (slice_index t.lines.items (slice_index hard c)) a.column a.space
+  pub below : (c : ℕ) → 0 < slice_index hard c → slice_index hard c < end
+  pub is : (c : ℕ) (a : Access) → slice_get t.keys.items c ≡ Some a → 0 < slice_index hard c → HasHard g t.limit (slice_index t.lines.items (slice_index hard c)) a.column a.space
 
 -- class d is asked about targets of class c
 abbrev pub IsAskable : Table → ℕ → ℕ → Type 0
@@ -58,11 +59,11 @@ abbrev pub IsWalked : GraphValue → Table → List Bool → ℕ → ℕ → Mar
 IsWalked g t racing first limit m = (r : ℕ) → r < limit → slice_get t.classes.items r ≡ Some m.class → m.floor ≤ place_at t.sites.items r → AreSettledWith g t.lines.items racing first (place_at t.sites.items r) m.word
 
 -- an access of the line at place x and one of the line at place u are answered for: by the lines themselves, which are settled or noted, by their sections where the modes commute, or by a hard access of one of the two spaces between them
-abbrev pub IsAnswered : GraphValue → List ℕ → List Bool → ℕ → ℕ → Access → Access → Type 0
-IsAnswered g lines racing x u a b = IsSettledOrNoted g racing (slice_index lines x) (slice_index lines u)
+abbrev pub IsAnswered : GraphValue → ℕ → List ℕ → List Bool → ℕ → ℕ → Access → Access → Type 0
+IsAnswered g limit lines racing x u a b = IsSettledOrNoted g racing (slice_index lines x) (slice_index lines u)
     ⊎ ((IsTrue (modes_commute a.mode b.mode) × LieApart g (slice_index lines x) (slice_index lines u))
-    ⊎ ((w : ℕ) × (x < w) × (w < u) × (HasHard g (slice_index lines w) a.column a.space ⊎ HasHard g (slice_index lines w) b.column b.space)))
+    ⊎ ((w : ℕ) × (x < w) × (w < u) × (HasHard g limit (slice_index lines w) a.column a.space ⊎ HasHard g limit (slice_index lines w) b.column b.space)))
 
--- all conflicts of the line at place u with lines before it are answered for
-abbrev pub AreAnsweredAt : GraphValue → List ℕ → List Bool → ℕ → Type 0
-AreAnsweredAt g lines racing u = (x : ℕ) (a b : Access) → x < u → Contains (all_accesses g (slice_index lines x)) a → Contains (all_accesses g (slice_index lines u)) b → AccessesConflict g a b → IsAnswered g lines racing x u a b
+-- where it stands below the limit, all conflicts of the line at place u with such lines before it are answered for
+abbrev pub AreAnsweredAt : GraphValue → ℕ → List ℕ → List Bool → ℕ → Type 0
+AreAnsweredAt g limit lines racing u = (x : ℕ) (a b : Access) → x < u → slice_index lines x < limit → slice_index lines u < limit → Contains (all_accesses g (slice_index lines x)) a → Contains (all_accesses g (slice_index lines u)) b → AccessesConflict g a b → IsAnswered g limit lines racing x u a b

@@ -175,7 +175,7 @@ fn own_bit(first: u32, place: u32, targets: u64) -> u64
 }
 
 /// The bits of a slice behind a place.
-pub(crate) fn later(first: u32, place: u32) -> u64
+pub(crate) fn behind(first: u32, place: u32) -> u64
     requires { place < first + 64 }
     ensures { (b : ℕ) → b < 64 → place < first + b → bit_in result b ≡ true }
 {

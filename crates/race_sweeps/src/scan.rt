@@ -6,7 +6,7 @@ ghost use Rattle.conflict_classes.specs.Classes.{AreNumbered, IsBegin, place_at}
 ghost use Rattle.race_sweeps.specs.Marks.{AreMarksBelow, IsMarked};
 ghost use Rattle.race_sweeps.specs.Scan.{AreAnsweredAt};
 ghost use Rattle.race_sweeps.specs.ScanState.{AreListed, IsScanned, AreGrouped};
-ghost use Rattle.race_sweeps.specs.Enough.{AreEnough};
+ghost use Rattle.race_sweeps.specs.Enough.{AreEnoughBelow};
 ghost use Rattle.sweep_base.specs.Noted.{AreStillNoted};
 ghost use Rattle.conflict_classes.specs.Table.{IsTable};
 
@@ -50,27 +50,29 @@ impl Scan {
         })
     }
 
-    /// Notes enough of the lines that race, where none is noted yet.
+    /// Notes enough of the lines that race, where none is noted yet, and in `later` the least later
+    /// line of two that are noted, where it is less.
     pub(crate) fn note_racing(
         mut self,
         graph: &Graph,
         table: &Table,
         held: &Held,
         racing: &mut Vec<bool>,
+        later: &mut u32,
     ) -> Result<(), NoMemory>
         requires table { IsTable graph.now table.now }
         requires held { IsHeld graph.now held.now }
         requires scanned { IsScanned graph.now table.now self 0 }
         requires size { length racing.old.items ≡ length graph.now.lines }
         ensures size { OnOk result (length racing.new.items ≡ length graph.now.lines) }
-        ensures enough { OnOk result (AreEnough graph.now racing.new.items) }
+        ensures enough { OnOk result (AreEnoughBelow graph.now table.now.limit racing.new.items) }
     {
         edges_between_lines();
         let lines = graph.lines();
         let mut first = 0;
         while first < lines {
             let end = lines.min(first + 64);
-            self.note_slice(graph, table, held, first, end, racing)?;
+            self.note_slice(graph, table, held, first, end, racing, later)?;
             first = end;
         }
         Ok(())
@@ -85,6 +87,7 @@ impl Scan {
         first: u32,
         end: u32,
         racing: &mut Vec<bool>,
+        later: &mut u32,
     ) -> Result<(), NoMemory>
         requires table { IsTable graph.now table.now }
         requires held { IsHeld graph.now held.now }
@@ -96,7 +99,7 @@ impl Scan {
         ensures scanned { OnOk result (IsScanned graph.now table.now self.new end) }
         ensures size { OnOk result (length racing.new.items ≡ length graph.now.lines) }
         ensures noted { OnOk result (AreStillNoted racing.old.items racing.new.items) }
-        ensures answered { OnOk result ((u : ℕ) → first ≤ u → u < end → AreAnsweredAt graph.now table.now.lines.items racing.new.items u) }
+        ensures answered { OnOk result ((u : ℕ) → first ≤ u → u < end → AreAnsweredAt graph.now table.now.limit table.now.lines.items racing.new.items u) }
     {
         let _ = graph.lines();
         self.groups.clear();
@@ -110,7 +113,7 @@ impl Scan {
             table,
         )?;
         self.reach.sweep(graph, table, first, end, targets, stop);
-        self.walk_all(graph, table, held, first, racing);
+        self.walk_all(graph, table, held, first, racing, later);
         harden_all(
             &mut self.hard,
             self.groups.marks.as_slice(),

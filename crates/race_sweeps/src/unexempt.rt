@@ -88,7 +88,7 @@ fn harden(hard: &mut Vec<u32>, table: &Table, class: u32, place: u32)
     requires lists { length table.now.near.items ≡ length table.now.keys.items }
     requires near { (c d : ℕ) → IsNear table.now.near.items c d → d < length table.now.keys.items }
     ensures size { length hard.new.items ≡ length table.now.keys.items }
-    ensures hard { (g : GraphValue) (end : ℕ) (a : Access) → place < end → slice_get table.now.keys.items class ≡ Some a → HasHard g (slice_index table.now.lines.items place) a.column a.space
+    ensures hard { (g : GraphValue) (end : ℕ) (a : Access) → place < end → slice_get table.now.keys.items class ≡ Some a → HasHard g table.now.limit (slice_index table.now.lines.items place) a.column a.space
         → IsHardTo g table.now hard.old.items end → IsHardTo g table.now hard.new.items end }
 {
     let key = table.keys[class as usize];

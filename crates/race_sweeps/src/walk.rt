@@ -13,7 +13,7 @@ ghost use Rattle.conflict_classes.specs.Table.{IsTable};
 ghost use Rattle.race_sweeps.specs.declared.marks.Mark.{Mark};
 
 use crate::marks::Mark;
-use crate::reach::later;
+use crate::reach::behind;
 use crate::scan::Scan;
 use conflict_classes::clash::is_exempt;
 use conflict_classes::lookups::Table;
@@ -30,6 +30,7 @@ impl Scan {
         held: &Held,
         first: u32,
         racing: &mut Vec<bool>,
+        later: &mut u32,
     )
         requires table { IsTable graph.now table.now }
         requires held { IsHeld graph.now held.now }
@@ -44,7 +45,7 @@ impl Scan {
     {
         let asks = self.asks.marks.as_slice();
         for ask in asks {
-            self.walk(graph, table, held, first, *ask, racing);
+            self.walk(graph, table, held, first, *ask, racing, later);
         }
     }
 
@@ -57,6 +58,7 @@ impl Scan {
         first: u32,
         ask: Mark,
         racing: &mut Vec<bool>,
+        later: &mut u32,
     )
         requires table { IsTable graph.now table.now }
         requires held { IsHeld graph.now held.now }
@@ -75,7 +77,7 @@ impl Scan {
             if place < ask.floor {
                 return;
             }
-            self.settle(graph, table, held, first, place, ask.word, racing);
+            self.settle(graph, table, held, first, place, ask.word, racing, later);
             found = self.members.earlier[number as usize];
         }
     }
@@ -90,6 +92,7 @@ impl Scan {
         place: u32,
         word: u64,
         racing: &mut Vec<bool>,
+        later: &mut u32,
     )
         requires table { IsTable graph.now table.now }
         requires held { IsHeld graph.now held.now }
@@ -102,11 +105,11 @@ impl Scan {
         ensures noted { AreStillNoted racing.old.items racing.new.items }
         ensures settled { AreSettledWith graph.now table.now.lines.items racing.new.items first place word }
     {
-        let left = word & later(first, place) & !self.reach.word(place);
+        let left = word & behind(first, place) & !self.reach.word(place);
         if left == 0 {
             return;
         }
-        note_all(graph, table, held, first, place, left, racing);
+        note_all(graph, table, held, first, place, left, racing, later);
     }
 }
 
@@ -119,6 +122,7 @@ fn note_all(
     place: u32,
     left: u64,
     racing: &mut Vec<bool>,
+    later: &mut u32,
 )
     requires table { IsTable graph.now table.now }
     requires held { IsHeld graph.now held.now }
@@ -131,7 +135,7 @@ fn note_all(
         → IsSettledOrNoted graph.now racing.new.items (slice_index table.now.lines.items place) (slice_index table.now.lines.items (first + b)) }
 {
     for bit in 0..64 {
-        note(graph, table, held, first, place, left, bit, racing);
+        note(graph, table, held, first, place, left, bit, racing, later);
     }
 }
 
@@ -145,6 +149,7 @@ fn note(
     left: u64,
     bit: u32,
     racing: &mut Vec<bool>,
+    later: &mut u32,
 )
     requires table { IsTable graph.now table.now }
     requires held { IsHeld graph.now held.now }
@@ -167,11 +172,18 @@ fn note(
     }
     let one = table.lines[place as usize];
     let two = table.lines[other as usize];
-    note_pair(graph, held, one, two, racing);
+    note_pair(graph, held, one, two, racing, later);
 }
 
-/// Notes two lines unless they are exempt.
-fn note_pair(graph: &Graph, held: &Held, one: u32, other: u32, racing: &mut Vec<bool>)
+/// Notes two lines unless they are exempt, and the later of them where it is the least so far.
+fn note_pair(
+    graph: &Graph,
+    held: &Held,
+    one: u32,
+    other: u32,
+    racing: &mut Vec<bool>,
+    later: &mut u32,
+)
     requires held { IsHeld graph.now held.now }
     requires one { one < length graph.now.lines }
     requires other { other < length graph.now.lines }
@@ -180,7 +192,7 @@ fn note_pair(graph: &Graph, held: &Held, one: u32, other: u32, racing: &mut Vec<
     ensures noted { AreStillNoted racing.old.items racing.new.items }
     ensures settled { IsSettledOrNoted graph.now racing.new.items one other }
 {
-    if are_noted(racing.as_slice(), one, other) {
+    if are_noted(racing.as_slice(), one, other, *later) {
         return;
     }
     if is_exempt(graph, held, one, other) {
@@ -188,13 +200,14 @@ fn note_pair(graph: &Graph, held: &Held, one: u32, other: u32, racing: &mut Vec<
     }
     racing[one as usize] = true;
     racing[other as usize] = true;
+    *later = one.max(other).min(*later);
 }
 
-/// Whether two lines are noted.
-fn are_noted(racing: &[bool], one: u32, other: u32) -> bool
+/// Whether two lines are noted, and neither stands above the least later line.
+fn are_noted(racing: &[bool], one: u32, other: u32, later: u32) -> bool
     requires one { one < length racing.now }
     requires other { other < length racing.now }
     ensures { IsTrue result → (is_noted racing.now one ≡ true) × (is_noted racing.now other ≡ true) }
 {
-    racing[one as usize] && racing[other as usize]
+    one.max(other) >= later && racing[one as usize] && racing[other as usize]
 }

@@ -1,6 +1,6 @@
 //! The sections that are open before a place of a trace.
 
-ghost use Rattle.std.specs.Prelude.{◌≡◌, ℕ, ◌+◌, ◌<◌, ◌==◌, cond, length};
+ghost use Rattle.std.specs.Prelude.{◌≡◌, ℕ, ◌+◌, ◌<◌, ◌==◌, ◌&&◌, not, false, cond, length};
 ghost use Rattle.realm_audit.specs.Prefix.{number_in};
 
 use crate::acquires::{acquired, released, taken};
@@ -77,9 +77,7 @@ impl Sections {
         let _ = graph.lines();
         self.opened[line as usize] = true;
         count_up(&mut self.all, lock);
-        if !shared {
-            count_up(&mut self.exclusive, lock);
-        }
+        count_up_unless(&mut self.exclusive, lock, shared);
     }
 
     /// Ends the section of an acquire, if it is open.
@@ -111,9 +109,7 @@ impl Sections {
     {
         self.opened[acquire as usize] = false;
         count_down(&mut self.all, lock);
-        if !shared {
-            count_down(&mut self.exclusive, lock);
-        }
+        count_down_unless(&mut self.exclusive, lock, shared);
     }
 
     /// The least acquire whose section is open, though it may not be where a line begins its own.
@@ -184,6 +180,18 @@ fn count_up(counts: &mut Vec<u32>, lock: u32)
     counts[lock as usize] += 1;
 }
 
+/// Counts one more for a reservation, unless the acquire is shared.
+fn count_up_unless(counts: &mut Vec<u32>, lock: u32, shared: bool)
+    requires lock { lock < length counts.old.items }
+    requires few { number_in counts.old.items lock < 4294967295 }
+    ensures size { length counts.new.items ≡ length counts.old.items }
+    ensures counts { (l : ℕ) → number_in counts.new.items l ≡ cond (not shared && (lock == l)) 1 0 + number_in counts.old.items l }
+{
+    if !shared {
+        count_up(counts, lock);
+    }
+}
+
 /// Counts one fewer for a reservation.
 fn count_down(counts: &mut Vec<u32>, lock: u32)
     requires lock { lock < length counts.old.items }
@@ -192,4 +200,16 @@ fn count_down(counts: &mut Vec<u32>, lock: u32)
     ensures counts { (l : ℕ) → number_in counts.old.items l ≡ cond (lock == l) 1 0 + number_in counts.new.items l }
 {
     counts[lock as usize] -= 1;
+}
+
+/// Counts one fewer for a reservation, unless the acquire is shared.
+fn count_down_unless(counts: &mut Vec<u32>, lock: u32, shared: bool)
+    requires lock { lock < length counts.old.items }
+    requires some { shared ≡ false → 0 < number_in counts.old.items lock }
+    ensures size { length counts.new.items ≡ length counts.old.items }
+    ensures counts { (l : ℕ) → number_in counts.old.items l ≡ cond (not shared && (lock == l)) 1 0 + number_in counts.new.items l }
+{
+    if !shared {
+        count_down(counts, lock);
+    }
 }

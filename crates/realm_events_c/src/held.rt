@@ -1,12 +1,13 @@
 //! The handles of C.
 
 ghost use Rattle.std.specs.Prelude.{◌≡◌, Option, Some, None, IfSome};
-ghost use Rattle.realm_events_c.specs.Held.{held_owns};
+ghost use Rattle.c_handles.specs.Ownership.{box_or_null_owns};
 ghost use Rattle.realm_events_c.specs.Kinds.{held_of};
+ghost use Rattle.realm_events_c.specs.contracts.token.Token.{the_row as token_row};
 ghost use Rattle.realm_events_c.specs.declared.token.Token.{Token as TheToken};
 
 use crate::token::Token;
-use c_handles::Parts;
+use c_handles::BoxOrNull;
 use std::alloc::Global;
 use std::marker::Model;
 
@@ -22,36 +23,26 @@ pub struct Held {
 }
 
 impl Model for Held {
-    ghost also_owns = { λ h. held_owns h.alloc h.at h.value };
+    ghost also_owns = { λ h. box_or_null_owns token_row h.alloc h.at h.value };
 }
 
 impl Held {
-    pub(crate) fn of_parts(parts: Parts<Token, Global>) -> Held
-        ensures { result.value ≡ Some parts.value }
+    fn of(pointer: BoxOrNull<Token>) -> Held
+        ensures { result.value ≡ pointer.value }
     {
-        let Parts { ptr, alloc } = parts;
+        let BoxOrNull { at, alloc } = pointer;
         Held {
-            at: ptr as *mut u8,
+            at: at as *mut u8,
             alloc,
         }
     }
 
-    pub(crate) fn into_parts(self) -> Parts<Token, Global>
-        requires { (v : TheToken) × (self.value ≡ Some v) }
-        ensures { self.value ≡ Some result.value }
+    fn into_pointer(self) -> BoxOrNull<Token>
+        ensures { result.value ≡ self.value }
     {
         let Held { at, alloc } = self;
-        Parts {
-            ptr: at as *mut Token,
-            alloc,
-        }
-    }
-
-    pub(crate) fn empty(alloc: Global) -> Held
-        ensures { result.value ≡ None }
-    {
-        Held {
-            at: std::ptr::null_mut(),
+        BoxOrNull {
+            at: at as *mut Token,
             alloc,
         }
     }
@@ -71,8 +62,8 @@ impl Held {
         ensures taken { self.old.value ≡ Some result.value }
         ensures empty { self.new.value ≡ None }
     {
-        let held = std::mem::replace(self, Held::empty(alloc));
-        held.into_parts().into_box()
+        let held = std::mem::replace(self, Held::of(BoxOrNull::null(alloc)));
+        held.into_pointer().into_box().unwrap()
     }
 
     /// Has the empty handle hold what was put into the room, where it was.
@@ -91,6 +82,6 @@ impl Held {
         requires { self.old.value ≡ None }
         ensures { self.new.value ≡ Some token.value }
     {
-        *self = Held::of_parts(Parts::of(token));
+        *self = Held::of(BoxOrNull::of(token));
     }
 }

@@ -2,12 +2,13 @@
 
 ghost use Rattle.std.specs.Prelude.{◌≡◌, Option, Some, None, true, false, IfSome};
 ghost use Rattle.std.specs.Option.{MatchOption};
-ghost use Rattle.realm_tasks_c.specs.Held.{held_owns};
+ghost use Rattle.c_handles.specs.Ownership.{box_or_null_owns};
 ghost use Rattle.realm_tasks_c.specs.Windows.{HoldsAny};
+ghost use Rattle.realm_tasks_c.specs.contracts.token.Token.{the_row as token_row};
 ghost use Rattle.realm_tasks_c.specs.declared.token.Token.{Token as TheToken};
 
 use crate::token::Token;
-use c_handles::Parts;
+use c_handles::BoxOrNull;
 use std::alloc::Global;
 use std::marker::Model;
 
@@ -23,40 +24,26 @@ pub struct Held {
 }
 
 impl Model for Held {
-    ghost also_owns = { λ h. held_owns h.alloc h.at h.value };
+    ghost also_owns = { λ h. box_or_null_owns token_row h.alloc h.at h.value };
 }
 
 impl Held {
-    pub(crate) fn of_parts(parts: Parts<Token, Global>) -> Held
-        ensures { result.value ≡ Some parts.value }
+    fn of(pointer: BoxOrNull<Token>) -> Held
+        ensures { result.value ≡ pointer.value }
     {
-        let Parts { ptr, alloc } = parts;
+        let BoxOrNull { at, alloc } = pointer;
         Held {
-            at: ptr as *mut u8,
+            at: at as *mut u8,
             alloc,
         }
     }
 
-    /// The box that it holds, taken apart. None comes exactly where it is empty.
-    pub(crate) fn into_parts(self) -> Option<Parts<Token, Global>>
-        ensures { MatchOption result (self.value ≡ None) (λ parts. self.value ≡ Some parts.value) }
+    fn into_pointer(self) -> BoxOrNull<Token>
+        ensures { result.value ≡ self.value }
     {
         let Held { at, alloc } = self;
-        if at.is_null() {
-            None
-        } else {
-            Some(Parts {
-                ptr: at as *mut Token,
-                alloc,
-            })
-        }
-    }
-
-    pub(crate) fn empty(alloc: Global) -> Held
-        ensures { result.value ≡ None }
-    {
-        Held {
-            at: std::ptr::null_mut(),
+        BoxOrNull {
+            at: at as *mut Token,
             alloc,
         }
     }
@@ -68,11 +55,8 @@ impl Held {
         ensures taken { MatchOption result (self.old.value ≡ None) (λ b. self.old.value ≡ Some b.value) }
         ensures empty { self.new.value ≡ None }
     {
-        let held = std::mem::replace(self, Held::empty(alloc));
-        match held.into_parts() {
-            Some(parts) => Some(parts.into_box()),
-            None => None,
-        }
+        let held = std::mem::replace(self, Held::of(BoxOrNull::null(alloc)));
+        held.into_pointer().into_box()
     }
 
     /// Whether the handle is empty.
@@ -95,6 +79,6 @@ impl Held {
         requires { self.old.value ≡ None }
         ensures { self.new.value ≡ Some token.value }
     {
-        *self = Held::of_parts(Parts::of(token));
+        *self = Held::of(BoxOrNull::of(token));
     }
 }

@@ -75,6 +75,33 @@ fn tiled_stencil(rt: HostRuntime) -> Result<(), Fail> {
     run_each(&rt, text.as_str(), report.as_str())
 }
 
+/// Two tiles of a column, which is cut into pieces.
+const TWO_TILES: &str = "realm 1\n\
+    space s 0..1\n\
+    space l 0..0\n\
+    space r 1..1\n\
+    inst a s x\n\
+    f = fill a.x l 1\n\
+    g = fill a.x r 2\n\
+    end\n";
+
+#[test]
+fn two_tiles(rt: HostRuntime) -> Result<(), Fail> {
+    let report = "realm-report 1\n\
+        op f done triggered\n\
+        op g done triggered\n\
+        cells a.x 0..1 1 2\n\
+        done\n";
+    let plan = "timeline 1\n\
+        op f 0 0 2\n\
+        op g 1 0 2\n\
+        critical 2 f\n\
+        length 2\n\
+        done\n";
+    run_each(&rt, TWO_TILES, report)?;
+    run_one(&rt, "timeline --workers 2 --columns", TWO_TILES, plan)
+}
+
 // the actions that run nothing, over a text with a comment
 #[test]
 fn other_actions(rt: HostRuntime) -> Result<(), Fail> {

@@ -1,4 +1,4 @@
--- Which acquires, once they hold, keep a line from starting: those that it excludes.
+-- Which acquires, once they hold, keep a line from starting: those that it excludes; and which queues a line holds.
 use Rattle.std.proofs.Common.{◌≡◌, ℕ, ◌+◌, ◌*◌, Bool, true, false, not, ◌&&◌, ◌||◌, ◌⊎◌, inl, inr, List, [], ◌∷◌, refl, sym, ◌∙◌, ap, subst, arith, Equal}
 use Rattle.std.specs.Prelude.{◌==◌, ◌≢◌, Option, Some, None}
 use Rattle.std.specs.Option.{option_map_or}
@@ -13,7 +13,7 @@ use Rattle.graph_terms.proofs.Public.{acquire_is}
 use Rattle.realm_timeline.specs.Plan.{Exclude}
 use Rattle.realm_timeline.specs.Queue.{QueueValue, queue_at, has_line, ChangesQueue, WithHolder, WithoutHolder}
 use Rattle.realm_timeline.specs.State.{exclusive_queue, shared_queue, verb_queue, queue_of, verb_bars, bars}
-use Rattle.realm_timeline.specs.Steps.{AddsHolder, RemovesHolder}
+use Rattle.realm_timeline.specs.Steps.{Adds, Removes}
 
 -- no line bars queue 0
 zero_barred : (v : Verb) → verb_bars 0 v ≡ true → ⊥
@@ -110,24 +110,28 @@ two_added true true false d = refl
 two_added true false true d = refl
 two_added true false false d = refl
 
-pub adds_none : (g : GraphValue) (old : List QueueValue) (k : ℕ) → ((q : ℕ) → bars g k q ≡ false) → AddsHolder g old old k
-adds_none g old k none = record { lines = λ q. refl; holders = λ q i. none_added (i == k) (bars g k q) (has_line (queue_at old q).holders i) (none q) }
+pub adds_none : (t : ℕ → Bool) (old : List QueueValue) (k : ℕ) → ((q : ℕ) → t q ≡ false) → Adds t old old k
+adds_none t old k none = record { lines = λ q. refl; holders = λ q i. none_added (i == k) (t q) (has_line (queue_at old q).holders i) (none q) }
 
-pub adds_shared : (g : GraphValue) (old new : List QueueValue) (k l : ℕ) (s : Bool) → verb_at g k ≡ Some (Acquire l s) → s ≡ true → ChangesQueue old new (exclusive_queue l) (WithHolder k) → AddsHolder g old new k
-adds_shared g old new k l s at is c = record {
-  lines = added_lines old new (exclusive_queue l) k c;
-  holders = λ q i. added_at old new (exclusive_queue l) k c q i ∙ ap (λ b. ((i == k) && b) || has_line (queue_at old q).holders i) (sym (bars_at g k l true (at ∙ ap (λ z. Some (Acquire l z)) is) q));
+pub adds_one : (old new : List QueueValue) (p k : ℕ) → ChangesQueue old new p (WithHolder k) → Adds (λ q. q == p) old new k
+adds_one old new p k c = record { lines = added_lines old new p k c; holders = added_at old new p k c }
+
+pub adds_both : (t u : ℕ → Bool) (old middle new : List QueueValue) (k : ℕ) → Adds t old middle k → Adds u middle new k → Adds (λ q. t q || u q) old new k
+adds_both t u old middle new k c d = record {
+  lines = λ q. d.lines q ∙ c.lines q;
+  holders = λ q i. d.holders q i ∙ (ap (λ b. ((i == k) && u q) || b) (c.holders q i) ∙ two_added (i == k) (t q) (u q) (has_line (queue_at old q).holders i));
 }
+
+pub adds_as : (t u : ℕ → Bool) (old new : List QueueValue) (k : ℕ) → ((q : ℕ) → t q ≡ u q) → Adds t old new k → Adds u old new k
+adds_as t u old new k same c = record { lines = c.lines; holders = λ q i. c.holders q i ∙ ap (λ b. ((i == k) && b) || has_line (queue_at old q).holders i) (same q) }
+
+pub adds_shared : (g : GraphValue) (old new : List QueueValue) (k l : ℕ) (s : Bool) → verb_at g k ≡ Some (Acquire l s) → s ≡ true → ChangesQueue old new (exclusive_queue l) (WithHolder k) → Adds (bars g k) old new k
+adds_shared g old new k l s at is c = adds_as (λ q. q == exclusive_queue l) (bars g k) old new k (λ q. sym (bars_at g k l true (at ∙ ap (λ z. Some (Acquire l z)) is) q)) (adds_one old new (exclusive_queue l) k c)
 
 pub adds_exclusive : (g : GraphValue) (old middle new : List QueueValue) (k l : ℕ) (s : Bool) → verb_at g k ≡ Some (Acquire l s) → s ≡ false → ChangesQueue old middle (exclusive_queue l) (WithHolder k) → ChangesQueue middle new (shared_queue l) (WithHolder k) →
-    AddsHolder g old new k
-adds_exclusive g old middle new k l s at is c d = record {
-  lines = λ q. added_lines middle new (shared_queue l) k d q ∙ added_lines old middle (exclusive_queue l) k c q;
-  holders = λ q i. added_at middle new (shared_queue l) k d q i
-      ∙ (ap (λ b. ((i == k) && (q == shared_queue l)) || b) (added_at old middle (exclusive_queue l) k c q i)
-      ∙ (two_added (i == k) (q == exclusive_queue l) (q == shared_queue l) (has_line (queue_at old q).holders i)
-      ∙ ap (λ b. ((i == k) && b) || has_line (queue_at old q).holders i) (sym (bars_at g k l false (at ∙ ap (λ z. Some (Acquire l z)) is) q))));
-}
+    Adds (bars g k) old new k
+adds_exclusive g old middle new k l s at is c d = adds_as (λ q. (q == exclusive_queue l) || (q == shared_queue l)) (bars g k) old new k (λ q. sym (bars_at g k l false (at ∙ ap (λ z. Some (Acquire l z)) is) q))
+    (adds_both (λ q. q == exclusive_queue l) (λ q. q == shared_queue l) old middle new k (adds_one old middle (exclusive_queue l) k c) (adds_one middle new (shared_queue l) k d))
 
 one_removed : (a b c : Bool) → b ≡ true → (not a && c) ≡ (not (a && b) && c)
 one_removed true true c h = refl
@@ -158,24 +162,28 @@ two_removed true true false d = refl
 two_removed true false true d = refl
 two_removed true false false d = refl
 
-pub removes_none : (g : GraphValue) (old : List QueueValue) (k : ℕ) → ((q : ℕ) → bars g k q ≡ false) → RemovesHolder g old old k
-removes_none g old k none = record { lines = λ q. refl; holders = λ q i. none_removed (i == k) (bars g k q) (has_line (queue_at old q).holders i) (none q) }
+pub removes_none : (t : ℕ → Bool) (old : List QueueValue) (k : ℕ) → ((q : ℕ) → t q ≡ false) → Removes t old old k
+removes_none t old k none = record { lines = λ q. refl; holders = λ q i. none_removed (i == k) (t q) (has_line (queue_at old q).holders i) (none q) }
 
-pub removes_shared : (g : GraphValue) (old new : List QueueValue) (k l : ℕ) (s : Bool) → verb_at g k ≡ Some (Acquire l s) → s ≡ true → ChangesQueue old new (exclusive_queue l) (WithoutHolder k) → RemovesHolder g old new k
-removes_shared g old new k l s at is c = record {
-  lines = removed_lines old new (exclusive_queue l) k c;
-  holders = λ q i. removed_at old new (exclusive_queue l) k c q i ∙ ap (λ b. not ((i == k) && b) && has_line (queue_at old q).holders i) (sym (bars_at g k l true (at ∙ ap (λ z. Some (Acquire l z)) is) q));
+pub removes_one : (old new : List QueueValue) (p k : ℕ) → ChangesQueue old new p (WithoutHolder k) → Removes (λ q. q == p) old new k
+removes_one old new p k c = record { lines = removed_lines old new p k c; holders = removed_at old new p k c }
+
+pub removes_both : (t u : ℕ → Bool) (old middle new : List QueueValue) (k : ℕ) → Removes t old middle k → Removes u middle new k → Removes (λ q. t q || u q) old new k
+removes_both t u old middle new k c d = record {
+  lines = λ q. d.lines q ∙ c.lines q;
+  holders = λ q i. d.holders q i ∙ (ap (λ b. not ((i == k) && u q) && b) (c.holders q i) ∙ two_removed (i == k) (t q) (u q) (has_line (queue_at old q).holders i));
 }
+
+pub removes_as : (t u : ℕ → Bool) (old new : List QueueValue) (k : ℕ) → ((q : ℕ) → t q ≡ u q) → Removes t old new k → Removes u old new k
+removes_as t u old new k same c = record { lines = c.lines; holders = λ q i. c.holders q i ∙ ap (λ b. not ((i == k) && b) && has_line (queue_at old q).holders i) (same q) }
+
+pub removes_shared : (g : GraphValue) (old new : List QueueValue) (k l : ℕ) (s : Bool) → verb_at g k ≡ Some (Acquire l s) → s ≡ true → ChangesQueue old new (exclusive_queue l) (WithoutHolder k) → Removes (bars g k) old new k
+removes_shared g old new k l s at is c = removes_as (λ q. q == exclusive_queue l) (bars g k) old new k (λ q. sym (bars_at g k l true (at ∙ ap (λ z. Some (Acquire l z)) is) q)) (removes_one old new (exclusive_queue l) k c)
 
 pub removes_exclusive : (g : GraphValue) (old middle new : List QueueValue) (k l : ℕ) (s : Bool) → verb_at g k ≡ Some (Acquire l s) → s ≡ false → ChangesQueue old middle (exclusive_queue l) (WithoutHolder k) → ChangesQueue middle new (shared_queue l) (WithoutHolder k) →
-    RemovesHolder g old new k
-removes_exclusive g old middle new k l s at is c d = record {
-  lines = λ q. removed_lines middle new (shared_queue l) k d q ∙ removed_lines old middle (exclusive_queue l) k c q;
-  holders = λ q i. removed_at middle new (shared_queue l) k d q i
-      ∙ (ap (λ b. not ((i == k) && (q == shared_queue l)) && b) (removed_at old middle (exclusive_queue l) k c q i)
-      ∙ (two_removed (i == k) (q == exclusive_queue l) (q == shared_queue l) (has_line (queue_at old q).holders i)
-      ∙ ap (λ b. not ((i == k) && b) && has_line (queue_at old q).holders i) (sym (bars_at g k l false (at ∙ ap (λ z. Some (Acquire l z)) is) q))));
-}
+    Removes (bars g k) old new k
+removes_exclusive g old middle new k l s at is c d = removes_as (λ q. (q == exclusive_queue l) || (q == shared_queue l)) (bars g k) old new k (λ q. sym (bars_at g k l false (at ∙ ap (λ z. Some (Acquire l z)) is) q))
+    (removes_both (λ q. q == exclusive_queue l) (λ q. q == shared_queue l) old middle new k (removes_one old middle (exclusive_queue l) k c) (removes_one middle new (shared_queue l) k d))
 
 -- a list of holders has one, or none
 pub some_holder : (ks : List ℕ) → ((k : ℕ) × (has_line ks k ≡ true)) ⊎ ((k : ℕ) → has_line ks k ≡ false)

@@ -1,5 +1,5 @@
 -- The tables of a simulation stay consistent when a line waits for one edge fewer.
-use Rattle.std.proofs.Common.{◌≡◌, ℕ, ◌+◌, ◌-◌, ◌<◌, Bool, true, false, cond, not, inl, inr, List, [], ◌∷◌, length, refl, sym, ◌∙◌, ap, subst, arith}
+use Rattle.std.proofs.Common.{◌≡◌, ℕ, ◌+◌, ◌-◌, ◌<◌, Bool, true, false, cond, not, ◌⊎◌, inl, inr, List, [], ◌∷◌, length, refl, sym, ◌∙◌, ap, subst, arith}
 use Rattle.std.specs.Prelude.{◌↔◌, ◌==◌, ◌&&◌, Contains, Option, Some, None, slice_index, slice_set, count_by}
 use Rattle.std.specs.List.{slice_index_or}
 use Rattle.std.proofs.lemmas.Bool.{true≢false, cases_lt, cases_eq, eq-eqb, eqb-true, ne_eqb, and_parts, and_from, or_cases, or_left, or_right, not_from_false, not-true, false_from_ne_true}
@@ -12,20 +12,22 @@ use Rattle.graph_meaning.proofs.Public.{back_path}
 use Rattle.realm_timeline.specs.declared.slot.Slot.{Slot}
 use Rattle.realm_timeline.specs.Plan.{slot_at, HasSlot}
 use Rattle.realm_timeline.specs.Queue.{QueueValue, queue_at, has_line}
-use Rattle.realm_timeline.specs.State.{State, queue_of, bars, is_done, waits_for, IsQueued, Holds, IsConsistent}
+use Rattle.realm_timeline.specs.State.{State, queue_of, joins, is_done, waits_for, IsQueued, IsHolder, IsConsistent}
 use Rattle.realm_timeline.specs.Steps.{IsOffered, CountsDown}
 use Rattle.realm_timeline.proofs.EdgeCounts.{bit, count_cons, count_one, count_zero, none_counted, counted_none}
+use Rattle.realm_timeline.proofs.Hindering.{joins_own}
 
 -- states with the same parts are one
-pub same_state : (a b : State) → a.time ≡ b.time → a.slots ≡ b.slots → a.order ≡ b.order → a.done ≡ b.done → a.left ≡ b.left → a.queues ≡ b.queues → a.running ≡ b.running → a ≡ b
-same_state a b t s o d l q r =
-    ap (λ x. record a { time = x }) t
+pub same_state : (a b : State) → a.by_columns ≡ b.by_columns → a.time ≡ b.time → a.slots ≡ b.slots → a.order ≡ b.order → a.done ≡ b.done → a.left ≡ b.left → a.queues ≡ b.queues → a.running ≡ b.running → a ≡ b
+same_state a b c t s o d l q r =
+    ap (λ x. record a { by_columns = x }) c
+    ∙ (ap (λ x. record b { time = x; slots = a.slots; order = a.order; done = a.done; left = a.left; queues = a.queues; running = a.running }) t
     ∙ (ap (λ x. record b { slots = x; order = a.order; done = a.done; left = a.left; queues = a.queues; running = a.running }) s
     ∙ (ap (λ x. record b { order = x; done = a.done; left = a.left; queues = a.queues; running = a.running }) o
     ∙ (ap (λ x. record b { done = x; left = a.left; queues = a.queues; running = a.running }) d
     ∙ (ap (λ x. record b { left = x; queues = a.queues; running = a.running }) l
     ∙ (ap (λ x. record b { queues = x; running = a.running }) q
-    ∙ ap (λ x. record b { running = x }) r)))))
+    ∙ ap (λ x. record b { running = x }) r))))))
 
 -- a place is within a list where another item stands than the one that is read past its end
 pub within : {X : Type 0} (xs : List X) (i : ℕ) (d : X) → (slice_index_or xs i d ≡ d → ⊥) → i < length xs
@@ -97,21 +99,43 @@ module _ (g : GraphValue) (p : ℕ) (s : State) (e : Edge) (rest : List Edge) (k
     waits = unstarted;
   }
 
-  -- what the offer does
-  queued_by : (b : Bool) → ((slice_index s.left e.to - 1 == 0) && not (never_comes g e.to)) ≡ b → IsOffered g s.queues queues e.to b → (q i : ℕ) → has_line (queue_at queues q).lines i ≡ true → IsQueued g after i × (queue_of g i ≡ q)
-  queued_by false is same q i h = let w = k.queued q i (subst (λ x. has_line (queue_at x q).lines i ≡ true) same h) in (still_waiting i w.0, w.1)
-  queued_by true is changes q i h = elim (cases_eq q (queue_of g e.to)) [
+  -- a line that stands in a queue from now on is the one that is offered, or stood there before
+  listed_by : (b : Bool) → ((slice_index s.left e.to - 1 == 0) && not (never_comes g e.to)) ≡ b → IsOffered g s.queues queues e.to b → (q i : ℕ) → has_line (queue_at queues q).lines i ≡ true →
+      ((q ≡ queue_of g e.to) × (i ≡ e.to) × IsQueued g after e.to) ⊎ (has_line (queue_at s.queues q).lines i ≡ true)
+  listed_by false is same q i h = inr (subst (λ x. has_line (queue_at x q).lines i ≡ true) same h)
+  listed_by true is changes q i h = elim (cases_eq q (queue_of g e.to)) [
     | inl at ↦ elim (or_cases (i == e.to) (has_line (queue_at s.queues (queue_of g e.to)).lines i) (sym (changes.here.lines i) ∙ subst (λ x. has_line (queue_at queues x).lines i ≡ true) at h)) [
       | inl new ↦ (
-          let same : i ≡ e.to = eqb-true i e.to new in
           let parts = and_parts (slice_index s.left e.to - 1 == 0) (not (never_comes g e.to)) is in
-          (subst (λ x. IsQueued g after x) (sym same) (now_waiting (eqb-true (slice_index s.left e.to - 1) 0 parts.0) (not-true (never_comes g e.to) parts.1)), ap (queue_of g) same ∙ sym at))
-      | inr old ↦ (let w = k.queued (queue_of g e.to) i old in (still_waiting i w.0, w.1 ∙ sym at))
+          inl (at, eqb-true i e.to new, now_waiting (eqb-true (slice_index s.left e.to - 1) 0 parts.0) (not-true (never_comes g e.to) parts.1)))
+      | inr old ↦ inr (subst (λ x. has_line (queue_at s.queues x).lines i ≡ true) (sym at) old)
     ]
-    | inr apart ↦ (let w = k.queued q i (subst (λ x. has_line x.lines i ≡ true) (changes.others q apart) h) in (still_waiting i w.0, w.1))
+    | inr apart ↦ inr (subst (λ x. has_line x.lines i ≡ true) (changes.others q apart) h)
   ]
 
-  all_queued_by : (b : Bool) → ((slice_index s.left e.to - 1 == 0) && not (never_comes g e.to)) ≡ b → IsOffered g s.queues queues e.to b → (i : ℕ) → IsQueued g after i → has_line (queue_at queues (queue_of g i)).lines i ≡ true
+  queued_by : (b : Bool) → ((slice_index s.left e.to - 1 == 0) && not (never_comes g e.to)) ≡ b → IsOffered g s.queues queues e.to b → (q i : ℕ) → has_line (queue_at queues q).lines i ≡ true → IsQueued g after i × (joins g s.by_columns i q ≡ true)
+  queued_by b is offered q i h = elim (listed_by b is offered q i h) [
+    | inl new ↦ (
+      subst (λ x. IsQueued g after x) (sym new.1) new.2,
+      subst (λ x. joins g s.by_columns x q ≡ true) (sym new.1) (subst (λ x. joins g s.by_columns e.to x ≡ true) (sym new.0) (joins_own g s.by_columns e.to)),
+    )
+    | inr old ↦ (let w = k.queued q i old in (still_waiting i w.0, w.1))
+  ]
+
+  one_place_by : (b : Bool) → ((slice_index s.left e.to - 1 == 0) && not (never_comes g e.to)) ≡ b → IsOffered g s.queues queues e.to b →
+      (q r i : ℕ) → has_line (queue_at queues q).lines i ≡ true → has_line (queue_at queues r).lines i ≡ true → q ≡ r
+  one_place_by b is offered q r i h f = elim (listed_by b is offered q i h) [
+    | inl new ↦ elim (listed_by b is offered r i f) [
+      | inl also ↦ new.0 ∙ sym also.0
+      | inr old ↦ absurd (not_waiting i (k.queued r i old).0.free new.1)
+    ]
+    | inr old ↦ elim (listed_by b is offered r i f) [
+      | inl new ↦ absurd (not_waiting i (k.queued q i old).0.free new.1)
+      | inr also ↦ k.one_place q r i old also
+    ]
+  ]
+
+  all_queued_by : (b : Bool) → ((slice_index s.left e.to - 1 == 0) && not (never_comes g e.to)) ≡ b → IsOffered g s.queues queues e.to b → (i : ℕ) → IsQueued g after i → (q : ℕ) × (has_line (queue_at queues q).lines i ≡ true)
   unfolding after
   all_queued_by false is same i w = elim (cases_eq i e.to) [
     | inl at ↦ (
@@ -119,16 +143,18 @@ module _ (g : GraphValue) (p : ℕ) (s : State) (e : Edge) (rest : List Edge) (k
         let z : slice_index left e.to ≡ 0 = subst (λ x. slice_index left x ≡ 0) at w.free in
         let flag : ((slice_index s.left e.to - 1 == 0) && not (never_comes g e.to)) ≡ true = and_from (slice_index s.left e.to - 1 == 0) (not (never_comes g e.to)) (eq-eqb (slice_index s.left e.to - 1) 0 (omega arith)) (not_from_false (never_comes g e.to) (subst (λ x. never_comes g x ≡ false) at w.comes)) in
         absurd (true≢false (sym flag ∙ is)))
-    | inr apart ↦ subst (λ x. has_line (queue_at x (queue_of g i)).lines i ≡ true) (sym same) (k.all_queued i (was_waiting i apart w))
+    | inr apart ↦ (let r = k.all_queued i (was_waiting i apart w) in (r.0, subst (λ x. has_line (queue_at x r.0).lines i ≡ true) (sym same) r.1))
   ]
   all_queued_by true is changes i w = elim (cases_eq i e.to) [
-    | inl at ↦ subst (λ x. has_line (queue_at queues (queue_of g x)).lines x ≡ true) (sym at) (changes.here.lines e.to ∙ or_left (e.to == e.to) (has_line (queue_at s.queues (queue_of g e.to)).lines e.to) (eq-eqb e.to e.to refl))
+    | inl at ↦ (queue_of g e.to, subst (λ x. has_line (queue_at queues (queue_of g e.to)).lines x ≡ true) (sym at) (changes.here.lines e.to ∙ or_left (e.to == e.to) (has_line (queue_at s.queues (queue_of g e.to)).lines e.to) (eq-eqb e.to e.to refl)))
     | inr apart ↦ (
-        let old : has_line (queue_at s.queues (queue_of g i)).lines i ≡ true = k.all_queued i (was_waiting i apart w) in
-        elim (cases_eq (queue_of g i) (queue_of g e.to)) [
-          | inl here ↦ subst (λ x. has_line (queue_at queues x).lines i ≡ true) (sym here) (changes.here.lines i ∙ or_right (i == e.to) (has_line (queue_at s.queues (queue_of g e.to)).lines i) (subst (λ x. has_line (queue_at s.queues x).lines i ≡ true) here old))
-          | inr there ↦ subst (λ x. has_line x.lines i ≡ true) (sym (changes.others (queue_of g i) there)) old
-        ])
+        let r = k.all_queued i (was_waiting i apart w) in (
+          r.0,
+          elim (cases_eq r.0 (queue_of g e.to)) [
+            | inl here ↦ subst (λ x. has_line (queue_at queues x).lines i ≡ true) (sym here) (changes.here.lines i ∙ or_right (i == e.to) (has_line (queue_at s.queues (queue_of g e.to)).lines i) (subst (λ x. has_line (queue_at s.queues x).lines i ≡ true) here r.1))
+            | inr there ↦ subst (λ x. has_line x.lines i ≡ true) (sym (changes.others r.0 there)) r.1
+          ],
+        ))
   ]
 
   holders_by : (b : Bool) → IsOffered g s.queues queues e.to b → (q : ℕ) → (queue_at queues q).holders ≡ (queue_at s.queues q).holders
@@ -152,8 +178,9 @@ module _ (g : GraphValue) (p : ℕ) (s : State) (e : Edge) (rest : List Edge) (k
         started_free = λ i x h. other i (not_waiting i (k.started_free i x h)) ∙ k.started_free i x h;
         finished_started = k.finished_started;
         queued = queued_by ((slice_index s.left e.to - 1 == 0) && not (never_comes g e.to)) refl offered;
+        one_place = one_place_by ((slice_index s.left e.to - 1 == 0) && not (never_comes g e.to)) refl offered;
         all_queued = all_queued_by ((slice_index s.left e.to - 1 == 0) && not (never_comes g e.to)) refl offered;
-        holders = λ q m. subst (λ hs. (has_line hs m ≡ true) ↔ ((bars g m q ≡ true) × Holds g s.slots s.done m)) (sym (same q)) (k.holders q m);
+        holders = λ q m. subst (λ hs. (has_line hs m ≡ true) ↔ IsHolder g s m q) (sym (same q)) (k.holders q m);
         runs = k.runs;
         running = k.running;
         ordered = k.ordered;
@@ -164,7 +191,7 @@ module _ (g : GraphValue) (p : ℕ) (s : State) (e : Edge) (rest : List Edge) (k
 pub count_down_consistent : (g : GraphValue) (p : ℕ) (s new : State) (e : Edge) (rest : List Edge) → IsConsistent g p s (e ∷ rest) → CountsDown g s new e.to → IsConsistent g p new rest
 unfolding after
 count_down_consistent g p s new e rest k st =
-    subst (λ x. IsConsistent g p x rest) (same_state (record s { left = new.left; queues = new.queues }) new (sym st.time) (sym st.slots) (sym st.order) (sym st.done) refl refl (sym st.running))
+    subst (λ x. IsConsistent g p x rest) (same_state (record s { left = new.left; queues = new.queues }) new (sym st.by_columns) (sym st.time) (sym st.slots) (sym st.order) (sym st.done) refl refl (sym st.running))
     (passed g p s e rest k new.left new.queues st.left st.queue_count st.queues)
 
 -- the line of an edge that is left waits

@@ -1,7 +1,7 @@
 -- The tables of a simulation stay consistent when a line is marked as finished.
 use Rattle.std.proofs.Common.{◌≡◌, ℕ, ◌+◌, ◌<◌, Bool, true, false, not, inl, inr, List, [], length, refl, sym, ◌∙◌, ap, subst, arith}
 use Rattle.std.specs.Prelude.{◌==◌, ◌↔◌, ◌&&◌, Option, Some, None, slice_index, slice_set, count_by}
-use Rattle.std.proofs.lemmas.Bool.{true≢false, cases_eq, eq-eqb, eqb-true, ne_eqb, and_parts, and_from, and_left, not_from_false, not-true}
+use Rattle.std.proofs.lemmas.Bool.{true≢false, cases_eq, eq-eqb, eqb-true, ne_eqb, and_parts, and_from, not_from_false, not-true, false_from_ne_true}
 use Rattle.std.proofs.lemmas.List.{get_or-set_same, get_or-set_other, length-set}
 use Rattle.std.proofs.lemmas.Option.{none-some, same_Some}
 use Rattle.graph_terms.specs.declared.verb.Edge.{Edge}
@@ -14,9 +14,10 @@ use Rattle.graph_terms.proofs.Public.{release_one}
 use Rattle.realm_timeline.specs.declared.slot.Slot.{Slot}
 use Rattle.realm_timeline.specs.Plan.{HasSlot}
 use Rattle.realm_timeline.specs.Queue.{QueueValue, queue_at, has_line}
-use Rattle.realm_timeline.specs.State.{State, queue_of, bars, is_done, runs_at, waits_for, Holds, IsConsistent}
-use Rattle.realm_timeline.specs.Steps.{Frees, MarksFinished}
+use Rattle.realm_timeline.specs.State.{State, bars, uses_bar, is_done, runs_at, waits_for, Holds, Runs, IsHolder, IsConsistent}
+use Rattle.realm_timeline.specs.Steps.{Removes, Frees, MarksFinished}
 use Rattle.realm_timeline.proofs.EdgeCounts.{bit, count_split, count_filter}
+use Rattle.realm_timeline.proofs.Hindering.{uses_or_bars}
 use Rattle.realm_timeline.proofs.ConsistentCounts.{same_state, within}
 
 -- one edge more counts as passed
@@ -38,7 +39,7 @@ awaits_by a b false d f h = by a b d (h refl)
     by a true false e = absurd (true≢false (sym e))
     by a false true e = absurd (true≢false e)
 
-module _ (g : GraphValue) (graph : IsGraph g) (accepted : Accepted g) (p : ℕ) (s : State) (q line : ℕ) (k : IsConsistent g p s []) (runs : runs_at s.running q ≡ Some line) (queues : List QueueValue) (count : length queues ≡ length s.queues) where
+module _ (g : GraphValue) (graph : IsGraph g) (accepted : Accepted g) (p : ℕ) (s : State) (q line : ℕ) (k : IsConsistent g p s []) (runs : runs_at s.running q ≡ Some line) (between queues : List QueueValue) (count : length queues ≡ length s.queues) (uses : Removes (uses_bar g s.by_columns line) s.queues between line) where
   after : State
   after = record s { running = slice_set s.running q None; done = slice_set s.done line true; queues = queues }
 
@@ -81,25 +82,44 @@ module _ (g : GraphValue) (graph : IsGraph g) (accepted : Accepted g) (p : ℕ) 
       let out : count_by (λ (e : Edge). e.to == i) (edges_out_of g line) ≡ count_by (λ (e : Edge). (e.to == i) && (e.from == line)) (edges g) = count_filter (λ (e : Edge). e.to == i) (λ (e : Edge). e.from == line) (edges g) in
       omega arith
 
-  lines_by : (o : Option ℕ) → Frees g line s.queues queues o → (r : ℕ) → (queue_at queues r).lines ≡ (queue_at s.queues r).lines
-  lines_by None f r = ap (λ x. (queue_at x r).lines) f.1
-  lines_by (Some a) f r = f.1.lines r
+  lines_by : (o : Option ℕ) → Frees g line between queues o → (r : ℕ) → (queue_at queues r).lines ≡ (queue_at s.queues r).lines
+  lines_by None f r = ap (λ x. (queue_at x r).lines) f.1 ∙ uses.lines r
+  lines_by (Some a) f r = f.1.lines r ∙ uses.lines r
 
   -- what holds from now on held before, and is not what the line releases
-  held_before : (o : Option ℕ) → Frees g line s.queues queues o → (r m : ℕ) → has_line (queue_at queues r).holders m ≡ true → (has_line (queue_at s.queues r).holders m ≡ true) × (bars g m r ≡ true → Releases g line m → ⊥)
-  held_before None f r m h = (subst (λ x. has_line (queue_at x r).holders m ≡ true) f.1 h, λ b rel. f.0 m rel)
-  held_before (Some a) f r m h =
-      let parts = and_parts (not ((m == a) && bars g a r)) (has_line (queue_at s.queues r).holders m) (sym (f.1.holders r m) ∙ h) in (
+  held_between : (o : Option ℕ) → Frees g line between queues o → (r m : ℕ) → has_line (queue_at queues r).holders m ≡ true → (has_line (queue_at between r).holders m ≡ true) × (bars g m r ≡ true → Releases g line m → ⊥)
+  held_between None f r m h = (subst (λ x. has_line (queue_at x r).holders m ≡ true) f.1 h, λ b rel. f.0 m rel)
+  held_between (Some a) f r m h =
+      let parts = and_parts (not ((m == a) && bars g a r)) (has_line (queue_at between r).holders m) (sym (f.1.holders r m) ∙ h) in (
         parts.1,
         λ b rel. (
             let same : m ≡ a = release_one g line m a rel f.0 in
             true≢false (sym (and_from (m == a) (bars g a r) (eq-eqb m a same) (subst (λ z. bars g z r ≡ true) same b)) ∙ not-true ((m == a) && bars g a r) parts.0)),
       )
 
-  still_held : (o : Option ℕ) → Frees g line s.queues queues o → (r m : ℕ) → has_line (queue_at s.queues r).holders m ≡ true → (Releases g line m → ⊥) → has_line (queue_at queues r).holders m ≡ true
+  -- and what the line does not release holds still
+  still_held : (o : Option ℕ) → Frees g line between queues o → (r m : ℕ) → has_line (queue_at between r).holders m ≡ true → (bars g m r ≡ true → Releases g line m → ⊥) → has_line (queue_at queues r).holders m ≡ true
   still_held None f r m h keeps = subst (λ x. has_line (queue_at x r).holders m ≡ true) (sym f.1) h
-  still_held (Some a) f r m h keeps = f.1.holders r m ∙ and_from (not ((m == a) && bars g a r)) (has_line (queue_at s.queues r).holders m)
-      (not_from_false ((m == a) && bars g a r) (and_left (m == a) (bars g a r) (ne_eqb m a (λ e. keeps (subst (Releases g line) (sym e) f.0))))) h
+  still_held (Some a) f r m h keeps = f.1.holders r m ∙ and_from (not ((m == a) && bars g a r)) (has_line (queue_at between r).holders m)
+      (not_from_false ((m == a) && bars g a r) (false_from_ne_true ((m == a) && bars g a r) (λ both. (
+      let parts = and_parts (m == a) (bars g a r) both in
+      let same : m ≡ a = eqb-true m a parts.0 in
+      keeps (subst (λ z. bars g z r ≡ true) (sym same) parts.1) (subst (Releases g line) (sym same) f.0))))) h
+
+  -- the line holds no column any more, and others hold theirs
+  used_before : (r m : ℕ) → has_line (queue_at between r).holders m ≡ true → (has_line (queue_at s.queues r).holders m ≡ true) × (uses_bar g s.by_columns m r ≡ true → m ≡ line → ⊥)
+  used_before r m h =
+      let parts = and_parts (not ((m == line) && uses_bar g s.by_columns line r)) (has_line (queue_at s.queues r).holders m) (sym (uses.holders r m) ∙ h) in (
+        parts.1,
+        λ b same. true≢false (sym (and_from (m == line) (uses_bar g s.by_columns line r) (eq-eqb m line same) (subst (λ z. uses_bar g s.by_columns z r ≡ true) same b)) ∙ not-true ((m == line) && uses_bar g s.by_columns line r) parts.0),
+      )
+
+  still_used : (r m : ℕ) → has_line (queue_at s.queues r).holders m ≡ true → (uses_bar g s.by_columns m r ≡ true → m ≡ line → ⊥) → has_line (queue_at between r).holders m ≡ true
+  still_used r m h keeps = uses.holders r m ∙ and_from (not ((m == line) && uses_bar g s.by_columns line r)) (has_line (queue_at s.queues r).holders m)
+      (not_from_false ((m == line) && uses_bar g s.by_columns line r) (false_from_ne_true ((m == line) && uses_bar g s.by_columns line r) (λ both. (
+      let parts = and_parts (m == line) (uses_bar g s.by_columns line r) both in
+      let same : m ≡ line = eqb-true m line parts.0 in
+      keeps (subst (λ z. uses_bar g s.by_columns z r ≡ true) (sym same) parts.1) same)))) h
 
   was_holding : (m : ℕ) → Holds g s.slots (slice_set s.done line true) m → Holds g s.slots s.done m
   was_holding m h = record { slot = h.slot; has = h.has; unreleased = λ r rel. (not_done r (h.unreleased r rel)).1 }
@@ -114,13 +134,27 @@ module _ (g : GraphValue) (graph : IsGraph g) (accepted : Accepted g) (p : ℕ) 
     ];
   }
 
-  holders : (o : Option ℕ) → Frees g line s.queues queues o → (r m : ℕ) → (has_line (queue_at queues r).holders m ≡ true) ↔ ((bars g m r ≡ true) × Holds g s.slots (slice_set s.done line true) m)
+  holders : (o : Option ℕ) → Frees g line between queues o → (r m : ℕ) → (has_line (queue_at queues r).holders m ≡ true) ↔ IsHolder g after m r
+  unfolding after
   holders o f r m = (
-    (λ h. (let e = held_before o f r m h in let b = (k.holders r m).0 e.0 in (b.0, still_holding m (e.1 b.0) b.1))),
-    (λ b. still_held o f r m ((k.holders r m).1 (b.0, was_holding m b.1)) (λ rel. true≢false (sym done_here ∙ b.1.unreleased line rel))),
+    (λ h. (
+        let e = held_between o f r m h in
+        let u = used_before r m e.0 in
+        elim ((k.holders r m).0 u.0) [
+          | inl by_section ↦ inl (by_section.0, still_holding m (e.1 by_section.0) by_section.1)
+          | inr by_use ↦ inr (by_use.0, record { slot = by_use.1.slot; has = by_use.1.has; undone = done_there m (u.1 by_use.0) ∙ by_use.1.undone })
+        ])),
+    (λ b. elim b [
+      | inl by_section ↦ still_held o f r m (still_used r m ((k.holders r m).1 (inl (by_section.0, was_holding m by_section.1))) (λ u same. uses_or_bars g s.by_columns m r by_section.0 u))
+          (λ b rel. true≢false (sym done_here ∙ by_section.1.unreleased line rel))
+      | inr by_use ↦ (
+          let n = not_done m by_use.1.undone in
+          still_held o f r m (still_used r m ((k.holders r m).1 (inr (by_use.0, record { slot = by_use.1.slot; has = by_use.1.has; undone = n.1 }))) (λ u same. n.0 same))
+          (λ b rel. uses_or_bars g s.by_columns m r b by_use.0))
+    ]),
   )
 
-  left_processor : (o : Option ℕ) → Frees g line s.queues queues o → IsConsistent g p after (edges_out_of g line)
+  left_processor : (o : Option ℕ) → Frees g line between queues o → IsConsistent g p after (edges_out_of g line)
   unfolding after
   left_processor o f = record {
     slot_count = k.slot_count;
@@ -135,7 +169,8 @@ module _ (g : GraphValue) (graph : IsGraph g) (accepted : Accepted g) (p : ℕ) 
       | inr apart ↦ k.finished_started i (sym (done_there i apart) ∙ h)
     ];
     queued = λ r i h. (let w = k.queued r i (subst (λ x. has_line x i ≡ true) (lines_by o f r) h) in (record { line = w.0.line; free = w.0.free; comes = w.0.comes; waits = w.0.waits }, w.1));
-    all_queued = λ i w. subst (λ x. has_line x i ≡ true) (sym (lines_by o f (queue_of g i))) (k.all_queued i (record { line = w.line; free = w.free; comes = w.comes; waits = w.waits }));
+    one_place = λ r t i h j. k.one_place r t i (subst (λ x. has_line x i ≡ true) (lines_by o f r) h) (subst (λ x. has_line x i ≡ true) (lines_by o f t) j);
+    all_queued = λ i w. (let q = k.all_queued i (record { line = w.line; free = w.free; comes = w.comes; waits = w.waits }) in (q.0, subst (λ x. has_line x i ≡ true) (sym (lines_by o f q.0)) q.1));
     holders = holders o f;
     runs = λ r m h. elim (cases_eq r q) [
       | inl at ↦ absurd (none-some m (sym (get_or-set_same s.running q None None q_below) ∙ subst (λ x. runs_at (slice_set s.running q None) x ≡ Some m) at h))
@@ -160,5 +195,5 @@ module _ (g : GraphValue) (graph : IsGraph g) (accepted : Accepted g) (p : ℕ) 
 pub finish_consistent : (g : GraphValue) → IsGraph g → Accepted g → (p : ℕ) (s new : State) (q line : ℕ) → IsConsistent g p s [] → runs_at s.running q ≡ Some line → MarksFinished g s new q line → IsConsistent g p new (edges_out_of g line)
 unfolding after
 finish_consistent g graph accepted p s new q line k runs st =
-    subst (λ x. IsConsistent g p x (edges_out_of g line)) (same_state (record s { running = slice_set s.running q None; done = slice_set s.done line true; queues = new.queues }) new (sym st.time) (sym st.slots) (sym st.order) (sym st.done) (sym st.left) refl (sym st.running))
-    (left_processor g graph accepted p s q line k runs new.queues st.queue_count st.acquire st.frees)
+    subst (λ x. IsConsistent g p x (edges_out_of g line)) (same_state (record s { running = slice_set s.running q None; done = slice_set s.done line true; queues = new.queues }) new (sym st.by_columns) (sym st.time) (sym st.slots) (sym st.order) (sym st.done) (sym st.left) refl (sym st.running))
+    (left_processor g graph accepted p s q line k runs st.between new.queues st.queue_count st.uses st.acquire st.frees)

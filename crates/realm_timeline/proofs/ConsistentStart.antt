@@ -14,8 +14,8 @@ use Rattle.graph_terms.proofs.Public.{release_names, one_release}
 use Rattle.realm_timeline.specs.declared.slot.Slot.{Slot}
 use Rattle.realm_timeline.specs.Plan.{slot_at, HasSlot}
 use Rattle.realm_timeline.specs.Queue.{QueueValue, queue_at, has_line, ChangesQueue, WithoutLine}
-use Rattle.realm_timeline.specs.State.{State, queue_of, bars, is_done, runs_at, IsQueued, Holds, IsConsistent}
-use Rattle.realm_timeline.specs.Steps.{AddsHolder, Starts, slot_of}
+use Rattle.realm_timeline.specs.State.{State, bars, uses_bar, held_by, joins, is_done, runs_at, IsQueued, Holds, Runs, IsHolder, IsConsistent}
+use Rattle.realm_timeline.specs.Steps.{Adds, Starts, slot_of}
 use Rattle.realm_timeline.proofs.ConsistentCounts.{same_state, source_done, path_started}
 
 -- one more slot
@@ -27,15 +27,12 @@ slot_there slots line x i apart = get_or-set_other slots line i (Some x) None ap
 
 module _ (g : GraphValue) (graph : IsGraph g) (accepted : Accepted g) (p : ℕ) (s : State) (k : IsConsistent g p s []) (place q line : ℕ) (x : Slot) (on : x.processor ≡ q)
     (listed : has_line (queue_at s.queues place).lines line ≡ true) (q_below : q < length s.running) (idle : runs_at s.running q ≡ None)
-    (between queues : List QueueValue) (count : length queues ≡ length s.queues) (changes : ChangesQueue s.queues between place (WithoutLine line)) (holds : AddsHolder g between queues line) where
+    (between queues : List QueueValue) (count : length queues ≡ length s.queues) (changes : ChangesQueue s.queues between place (WithoutLine line)) (holds : Adds (held_by g s.by_columns line) between queues line) where
   after : State
   after = record s { slots = slice_set s.slots line (Some x); order = s.order ++ line ∷ []; queues = queues; running = slice_set s.running q (Some line) }
 
   waiting : IsQueued g s line
   waiting = (k.queued place line listed).0
-
-  at_place : queue_of g line ≡ place
-  at_place = (k.queued place line listed).1
 
   below : line < length s.slots
   below = let a : line < length g.lines = waiting.line in let b : length s.slots ≡ length g.lines = k.slot_count in omega arith
@@ -86,28 +83,35 @@ module _ (g : GraphValue) (graph : IsGraph g) (accepted : Accepted g) (p : ℕ) 
   unfolding after
   still_waiting i apart w = record { line = w.line; free = w.free; comes = w.comes; waits = slot_there s.slots line x i apart ∙ w.waits }
 
-  queued : (r i : ℕ) → has_line (queue_at queues r).lines i ≡ true → IsQueued g after i × (queue_of g i ≡ r)
-  queued r i h' =
+  pub was_listed : (r i : ℕ) → has_line (queue_at queues r).lines i ≡ true → (i ≡ line → ⊥) × (has_line (queue_at s.queues r).lines i ≡ true)
+  was_listed r i h' =
       let h : has_line (queue_at between r).lines i ≡ true = subst (λ z. has_line z i ≡ true) (holds.lines r) h' in
       elim (cases_eq r place) [
         | inl at ↦ (
             let parts = and_parts (not (i == line)) (has_line (queue_at s.queues place).lines i) (sym (changes.here.lines i) ∙ subst (λ z. has_line (queue_at between z).lines i ≡ true) at h) in
-            let w = k.queued place i parts.1 in
-            (still_waiting i (λ e. true≢false (sym (eq-eqb i line e) ∙ not-true (i == line) parts.0)) w.0, w.1 ∙ sym at))
+            ((λ e. true≢false (sym (eq-eqb i line e) ∙ not-true (i == line) parts.0)), subst (λ z. has_line (queue_at s.queues z).lines i ≡ true) (sym at) parts.1))
         | inr apart ↦ (
-            let w = k.queued r i (subst (λ z. has_line z.lines i ≡ true) (changes.others r apart) h) in
-            (still_waiting i (λ e. apart (sym w.1 ∙ (ap (queue_of g) e ∙ at_place))) w.0, w.1))
+            let old : has_line (queue_at s.queues r).lines i ≡ true = subst (λ z. has_line z.lines i ≡ true) (changes.others r apart) h in
+            ((λ e. apart (k.one_place r place line (subst (λ z. has_line (queue_at s.queues r).lines z ≡ true) e old) listed)), old))
       ]
 
-  all_queued : (i : ℕ) → IsQueued g after i → has_line (queue_at queues (queue_of g i)).lines i ≡ true
+  queued : (r i : ℕ) → has_line (queue_at queues r).lines i ≡ true → IsQueued g after i × (joins g s.by_columns i r ≡ true)
+  queued r i h =
+      let old = was_listed r i h in
+      let w = k.queued r i old.1 in
+      (still_waiting i old.0 w.0, w.1)
+
+  all_queued : (i : ℕ) → IsQueued g after i → (r : ℕ) × (has_line (queue_at queues r).lines i ≡ true)
   all_queued i w' =
       let w = was_waiting i w' in
-      let old : has_line (queue_at s.queues (queue_of g i)).lines i ≡ true = k.all_queued i w.1 in
-      subst (λ z. has_line z i ≡ true) (sym (holds.lines (queue_of g i))) (elim (cases_eq (queue_of g i) place) [
-        | inl at ↦ subst (λ z. has_line (queue_at between z).lines i ≡ true) (sym at)
-            (changes.here.lines i ∙ and_from (not (i == line)) (has_line (queue_at s.queues place).lines i) (not_from_false (i == line) (ne_eqb i line w.0)) (subst (λ z. has_line (queue_at s.queues z).lines i ≡ true) at old))
-        | inr apart ↦ subst (λ z. has_line z.lines i ≡ true) (sym (changes.others (queue_of g i) apart)) old
-      ])
+      let old = k.all_queued i w.1 in (
+        old.0,
+        subst (λ z. has_line z i ≡ true) (sym (holds.lines old.0)) (elim (cases_eq old.0 place) [
+          | inl at ↦ subst (λ z. has_line (queue_at between z).lines i ≡ true) (sym at)
+              (changes.here.lines i ∙ and_from (not (i == line)) (has_line (queue_at s.queues place).lines i) (not_from_false (i == line) (ne_eqb i line w.0)) (subst (λ z. has_line (queue_at s.queues z).lines i ≡ true) at old.1))
+          | inr apart ↦ subst (λ z. has_line z.lines i ≡ true) (sym (changes.others old.0 apart)) old.1
+        ]),
+      )
 
   same_holders : (q : ℕ) → (queue_at between q).holders ≡ (queue_at s.queues q).holders
   same_holders r = elim (cases_eq r place) [
@@ -124,21 +128,43 @@ module _ (g : GraphValue) (graph : IsGraph g) (accepted : Accepted g) (p : ℕ) 
   line_holds : Holds g (slice_set s.slots line (Some x)) s.done line
   line_holds = record { slot = x; has = here; unreleased = unreleased }
 
-  -- the holders are those from before, and the line if it is an acquire
-  pub holders_now : (r m : ℕ) → has_line (queue_at queues r).holders m ≡ (((m == line) && bars g line r) || has_line (queue_at s.queues r).holders m)
-  holders_now r m = holds.holders r m ∙ ap (λ hs. ((m == line) && bars g line r) || has_line hs m) (same_holders r)
+  line_runs : Runs (slice_set s.slots line (Some x)) s.done line
+  line_runs = record { slot = x; has = here; undone = undone }
 
-  holders : (r m : ℕ) → (has_line (queue_at queues r).holders m ≡ true) ↔ ((bars g m r ≡ true) × Holds g (slice_set s.slots line (Some x)) s.done m)
+  -- the holders are those from before, and the line
+  pub holders_now : (r m : ℕ) → has_line (queue_at queues r).holders m ≡ (((m == line) && held_by g s.by_columns line r) || has_line (queue_at s.queues r).holders m)
+  holders_now r m = holds.holders r m ∙ ap (λ hs. ((m == line) && held_by g s.by_columns line r) || has_line hs m) (same_holders r)
+
+  line_held : (r : ℕ) → held_by g s.by_columns line r ≡ true → IsHolder g after line r
+  unfolding after
+  line_held r h = elim (or_cases (bars g line r) (uses_bar g s.by_columns line r) h) [ inl by_section ↦ inl (by_section, line_holds) | inr by_use ↦ inr (by_use, line_runs) ]
+
+  held_more : (r m : ℕ) → IsHolder g s m r → IsHolder g after m r
+  unfolding after
+  held_more r m (inl by_section) = inl (by_section.0, now_holding m by_section.1)
+  held_more r m (inr by_use) = inr (by_use.0, record { slot = by_use.1.slot; has = more m by_use.1.slot by_use.1.has; undone = by_use.1.undone })
+
+  held_fewer : (r m : ℕ) → (m ≡ line → ⊥) → IsHolder g after m r → IsHolder g s m r
+  unfolding after
+  held_fewer r m apart (inl by_section) = inl (by_section.0, was_holding m apart by_section.1)
+  held_fewer r m apart (inr by_use) = inr (by_use.0, record { slot = by_use.1.slot; has = fewer m by_use.1.slot apart by_use.1.has; undone = by_use.1.undone })
+
+  holds_some : (r m : ℕ) → IsHolder g after m r → held_by g s.by_columns m r ≡ true
+  unfolding after
+  holds_some r m (inl by_section) = or_left (bars g m r) (uses_bar g s.by_columns m r) by_section.0
+  holds_some r m (inr by_use) = or_right (bars g m r) (uses_bar g s.by_columns m r) by_use.0
+
+  holders : (r m : ℕ) → (has_line (queue_at queues r).holders m ≡ true) ↔ IsHolder g after m r
   holders r m = (
-    (λ h. elim (or_cases ((m == line) && bars g line r) (has_line (queue_at s.queues r).holders m) (sym (holders_now r m) ∙ h)) [
+    (λ h. elim (or_cases ((m == line) && held_by g s.by_columns line r) (has_line (queue_at s.queues r).holders m) (sym (holders_now r m) ∙ h)) [
       | inl new ↦ (
-          let parts = and_parts (m == line) (bars g line r) new in
-          subst (λ z. (bars g z r ≡ true) × Holds g (slice_set s.slots line (Some x)) s.done z) (sym (eqb-true m line parts.0)) (parts.1, line_holds))
-      | inr old ↦ (let b = (k.holders r m).0 old in (b.0, now_holding m b.1))
+          let parts = and_parts (m == line) (held_by g s.by_columns line r) new in
+          subst (λ z. IsHolder g after z r) (sym (eqb-true m line parts.0)) (line_held r parts.1))
+      | inr old ↦ held_more r m ((k.holders r m).0 old)
     ]),
     (λ b. holders_now r m ∙ elim (cases_eq m line) [
-      | inl at ↦ or_left ((m == line) && bars g line r) (has_line (queue_at s.queues r).holders m) (and_from (m == line) (bars g line r) (eq-eqb m line at) (subst (λ z. bars g z r ≡ true) at b.0))
-      | inr apart ↦ or_right ((m == line) && bars g line r) (has_line (queue_at s.queues r).holders m) ((k.holders r m).1 (b.0, was_holding m apart b.1))
+      | inl at ↦ or_left ((m == line) && held_by g s.by_columns line r) (has_line (queue_at s.queues r).holders m) (and_from (m == line) (held_by g s.by_columns line r) (eq-eqb m line at) (subst (λ z. held_by g s.by_columns z r ≡ true) at (holds_some r m b)))
+      | inr apart ↦ or_right ((m == line) && held_by g s.by_columns line r) (has_line (queue_at s.queues r).holders m) ((k.holders r m).1 (held_fewer r m apart b))
     ]),
   )
 
@@ -160,6 +186,7 @@ module _ (g : GraphValue) (graph : IsGraph g) (accepted : Accepted g) (p : ℕ) 
     ];
     finished_started = λ i h. (let r = k.finished_started i h in (r.0, more i r.0 r.1));
     queued = queued;
+    one_place = λ r t i h j. k.one_place r t i (was_listed r i h).1 (was_listed t i j).1;
     all_queued = all_queued;
     holders = holders;
     runs = λ r m h. elim (cases_eq r q) [
@@ -213,5 +240,5 @@ unfolding after
 start_consistent g graph accepted p s new place q line k q_below idle st =
     subst (λ x. IsConsistent g p x [])
     (same_state (record s { slots = slice_set s.slots line (Some (slot_of g s q line)); order = s.order ++ line ∷ []; queues = new.queues; running = slice_set s.running q (Some line) }) new
-    (sym st.time) (sym st.slots) (sym st.order) (sym st.done) (sym st.left) refl (sym st.running))
+    (sym st.by_columns) (sym st.time) (sym st.slots) (sym st.order) (sym st.done) (sym st.left) refl (sym st.running))
     (consistent_start g graph accepted p s k place q line (slot_of g s q line) refl st.listed q_below idle st.queues.0 new.queues st.queue_count st.queues.1 st.queues.2)

@@ -15,9 +15,11 @@ use Rattle.graph_terms.proofs.Public.{acquire_is, release_is, passes_below, acqu
 use Rattle.std.specs.Option.{option_map_or}
 use Rattle.graph_terms.specs.declared.verb.Verb.TheVariants.{Acquire, Release}
 use Rattle.realm_timeline.specs.declared.slot.Slot.{Slot}
-use Rattle.realm_timeline.specs.Plan.{Planned, slot_at, HasSlot, IsPlan, FinishedBy, ReleasedBy, Exclude, IsMoment, IsReadyAt, IsFreeFor, MayStart, StartsAt, IsGreedy}
+use Rattle.realm_timeline.specs.Plan.{Planned, slot_at, HasSlot, IsPlan, FinishedBy, ReleasedBy, Exclude, IsMoment, IsFreeFor, MayStart, StartsAt, IsGreedy}
 use Rattle.realm_timeline.specs.Queue.{queue_at, AllHeldOrEmpty}
-use Rattle.realm_timeline.specs.State.{State, queue_of, is_done, runs_at, IsQueued, Holds, HasStartedAll}
+use Rattle.realm_timeline.specs.State.{State, is_done, runs_at, IsQueued, Holds, MayStartNow, HasStartedAll}
+use Rattle.realm_timeline.specs.Columns.{IsFirstFor, IsGreedyByColumns}
+use Rattle.realm_timeline.proofs.Hindering.{bars_hinder}
 use Rattle.realm_timeline.specs.Order.{IsOrder}
 use Rattle.realm_timeline.proofs.SlotFacts.{one_slot, takes_time, path_finished}
 use Rattle.realm_timeline.proofs.Positions.{few_distinct}
@@ -55,12 +57,15 @@ module _ (g : GraphValue) (graph : IsGraph g) (accepted : Accepted g) (p : ℕ) 
   ready_blocked k ready =
       let none : slot_at s.slots k ≡ None = by (slot_at s.slots k) refl in
       let w : IsQueued g s k = record { line = ready.below; free = sources_none g p s r.simulation.consistent k ready.sources; comes = ready.comes; waits = none } in
-      elim (some_holder (queue_at s.queues (queue_of g k)).holders) [
-        | inl held ↦ (
-            let h = (r.simulation.consistent.holders (queue_of g k) held.0).0 held.1 in
-            let same = bars_same g k held.0 h.0 in
-            (same.0, same.1, (held.0, same.2, h.1)))
-        | inr free ↦ absurd (true≢false (sym (r.simulation.consistent.all_queued k w) ∙ all_held_or_empty (queue_of g k) k free))
+      let at = r.simulation.consistent.all_queued k w in
+      elim (some_holder (queue_at s.queues at.0).holders) [
+        | inl held ↦ elim ((r.simulation.consistent.holders at.0 held.0).0 held.1) [
+          | inl by_section ↦ (
+              let same = bars_same g k held.0 (bars_hinder g s.by_columns graph k held.0 at.0 (r.simulation.consistent.queued at.0 k at.1).1 by_section.0) in
+              (same.0, same.1, (held.0, same.2, by_section.1)))
+          | inr by_use ↦ absurd (true≢false (sym (all_done held.0 by_use.1.slot by_use.1.has) ∙ by_use.1.undone))
+        ]
+        | inr free ↦ absurd (true≢false (sym at.1 ∙ all_held_or_empty at.0 k free))
       ]
     where
       by : (o : Option Slot) → slot_at s.slots k ≡ o → o ≡ None
@@ -146,12 +151,12 @@ module _ (g : GraphValue) (graph : IsGraph g) (accepted : Accepted g) (p : ℕ) 
       let at : m.1.finish ≡ t = m.3 in
       omega arith
 
-  starts_if : (t i : ℕ) → IsMoment s.slots t → IsReadyAt g s.slots t i → MayStart g p s.slots t i → StartsAt s.slots t i
-  starts_if t i moment ready may =
+  starts_if : (t i : ℕ) → IsMoment s.slots t → MayStartNow g s.by_columns p s.slots t i → StartsAt s.slots t i
+  starts_if t i moment may =
       let past : t ≤ s.time = moment_past t moment in
       elim (cases_order t s.time) [
-        | inl now ↦ subst (λ u. StartsAt s.slots u i) (sym now) (r.greedy (subst (IsMoment s.slots) now moment) i (subst (λ u. IsReadyAt g s.slots u i) now ready) (subst (λ u. MayStart g p s.slots u i) now may))
-        | inr (inl before) ↦ r.simulation.up_to_now.greedy t before moment i ready may
+        | inl now ↦ subst (λ u. StartsAt s.slots u i) (sym now) (r.greedy (subst (IsMoment s.slots) now moment) i (subst (λ u. MayStartNow g s.by_columns p s.slots u i) now may))
+        | inr (inl before) ↦ r.simulation.up_to_now.greedy t before moment i may
         | inr (inr after) ↦ absurd (omega arith)
       ]
 
@@ -163,10 +168,29 @@ module _ (g : GraphValue) (graph : IsGraph g) (accepted : Accepted g) (p : ℕ) 
     first = λ k excludes below y h at. apart_excluding i k excludes starts.0 y starts.1 h (starts.2 ∙ sym at);
   }
 
-  is_greedy : IsGreedy g p s.slots
-  is_greedy = record {
+  is_greedy : s.by_columns ≡ false → IsGreedy g p s.slots
+  is_greedy off = record {
     moments = r.simulation.up_to_now.moments;
-    each = λ t i moment ready. ((λ starts. may_if t i starts), (λ may. starts_if t i moment ready may));
+    each = λ t i moment ready. ((λ starts. may_if t i starts), (λ may. starts_if t i moment (record { ready = ready; may = may; free = λ on. absurd (true≢false (sym on ∙ off)); first = λ on. absurd (true≢false (sym on ∙ off)) })));
+    free = r.simulation.up_to_now.free;
+    lowest = r.simulation.up_to_now.lowest;
+  }
+
+  -- two lines that collide do not start together
+  first_if : s.by_columns ≡ true → (t i : ℕ) → StartsAt s.slots t i → IsFirstFor g s.slots t i
+  first_if on t i starts k c below y h at =
+      let x : starts.0.start < starts.0.finish = takes_time g p s.slots r.simulation.up_to_now.some i starts.0 starts.1 in
+      let z : y.start < y.finish = takes_time g p s.slots r.simulation.up_to_now.some k y h in
+      let same : starts.0.start ≡ t = starts.2 in
+      elim (r.simulation.up_to_now.apart on i k c starts.0 y starts.1 h) [
+        | inl a ↦ absurd (omega arith)
+        | inr b ↦ absurd (omega arith)
+      ]
+
+  is_greedy_by_columns : s.by_columns ≡ true → IsGreedyByColumns g p s.slots
+  is_greedy_by_columns on = record {
+    moments = r.simulation.up_to_now.moments;
+    each = λ t i moment ready free. ((λ starts. (may_if t i starts, first_if on t i starts)), (λ may. starts_if t i moment (record { ready = ready; may = may.0; free = λ _. free; first = λ _. may.1 })));
     free = r.simulation.up_to_now.free;
     lowest = r.simulation.up_to_now.lowest;
   }
@@ -177,8 +201,11 @@ plan_is_whole g graph accepted p s some r over = is_plan g graph accepted p s so
 pub others_are_reached : (g : GraphValue) → IsGraph g → Accepted g → (p : ℕ) (s : State) → 0 < p → HasStartedAll g p s → ((q k : ℕ) → runs_at s.running q ≡ Some k → ⊥) → (i : ℕ) → i < length g.lines → slot_at s.slots i ≡ None → Reached g i
 others_are_reached g graph accepted p s some r over = unstarted_reached g graph accepted p s some r over
 
-pub plan_is_greedy : (g : GraphValue) → IsGraph g → Accepted g → (p : ℕ) (s : State) → 0 < p → HasStartedAll g p s → ((q k : ℕ) → runs_at s.running q ≡ Some k → ⊥) → IsGreedy g p s.slots
+pub plan_is_greedy : (g : GraphValue) → IsGraph g → Accepted g → (p : ℕ) (s : State) → 0 < p → HasStartedAll g p s → ((q k : ℕ) → runs_at s.running q ≡ Some k → ⊥) → s.by_columns ≡ false → IsGreedy g p s.slots
 plan_is_greedy g graph accepted p s some r over = is_greedy g graph accepted p s some r over
+
+pub plan_is_greedy_by_columns : (g : GraphValue) → IsGraph g → Accepted g → (p : ℕ) (s : State) → 0 < p → HasStartedAll g p s → ((q k : ℕ) → runs_at s.running q ≡ Some k → ⊥) → s.by_columns ≡ true → IsGreedyByColumns g p s.slots
+plan_is_greedy_by_columns g graph accepted p s some r over = is_greedy_by_columns g graph accepted p s some r over
 
 pub order_is : (g : GraphValue) → IsGraph g → Accepted g → (p : ℕ) (s : State) → 0 < p → HasStartedAll g p s → ((q k : ℕ) → runs_at s.running q ≡ Some k → ⊥) → IsOrder g s.order
 order_is g graph accepted p s some r over = record {

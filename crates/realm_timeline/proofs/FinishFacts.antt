@@ -15,7 +15,7 @@ use Rattle.realm_timeline.specs.NextFinish.{IsNextFinish, IsSoonestOf, IsSoonest
 use Rattle.realm_timeline.proofs.SlotFacts.{one_slot}
 use Rattle.realm_timeline.proofs.ConsistentCounts.{within}
 
-module _ (g : GraphValue) (p : ℕ) (s new : State) (next : ℕ) (r : HasStartedAll g p s) (n : IsNextFinish s next) (k : IsConsistent g p new []) (slots : new.slots ≡ s.slots) (time : new.time ≡ next)
+module _ (g : GraphValue) (p : ℕ) (s new : State) (next : ℕ) (r : HasStartedAll g p s) (n : IsNextFinish s next) (k : IsConsistent g p new []) (same : new.by_columns ≡ s.by_columns) (slots : new.slots ≡ s.slots) (time : new.time ≡ next)
     (finished : (i : ℕ) → is_done new.done i ≡ true → FinishedBy s.slots next i) (marked : (i : ℕ) → FinishedBy s.slots next i → is_done new.done i ≡ true) where
   later : s.time < next
   later = elim (cases_lt s.time next) [
@@ -35,9 +35,9 @@ module _ (g : GraphValue) (p : ℕ) (s new : State) (next : ℕ) (r : HasStarted
   was_undone : (i : ℕ) → is_done new.done i ≡ false → is_done s.done i ≡ false
   was_undone i h = false_from_ne_true (is_done s.done i) (λ d. true≢false (sym (keeps i d) ∙ h))
 
-  greedy : (u : ℕ) → u < next → IsGreedyAt g p s.slots u
+  greedy : (u : ℕ) → u < next → IsGreedyAt g s.by_columns p s.slots u
   greedy u before moment = elim (cases_order u s.time) [
-    | inl same ↦ subst (IsGreedyAt g p s.slots) (sym same) r.greedy moment
+    | inl now ↦ subst (IsGreedyAt g s.by_columns p s.slots) (sym now) r.greedy moment
     | inr (inl early) ↦ r.simulation.up_to_now.greedy u early moment
     | inr (inr late) ↦ absurd (elim moment [
       | inl zero_is ↦ (let e : u ≡ 0 = zero_is in absurd (omega arith))
@@ -53,12 +53,13 @@ module _ (g : GraphValue) (p : ℕ) (s new : State) (next : ℕ) (r : HasStarted
     ])
   ]
 
-  up_to_now : IsGreedyUpTo g p s.slots next
+  up_to_now : IsGreedyUpTo g s.by_columns p s.slots next
   up_to_now =
       let l : s.time < next = later in
       record {
         some = r.simulation.up_to_now.some;
         valid = r.simulation.up_to_now.valid;
+        apart = r.simulation.up_to_now.apart;
         moments = r.simulation.up_to_now.moments;
         free = r.simulation.up_to_now.free;
         lowest = r.simulation.up_to_now.lowest;
@@ -87,14 +88,14 @@ module _ (g : GraphValue) (p : ℕ) (s new : State) (next : ℕ) (r : HasStarted
       let fewer : undone new.done (length g.lines) + 1 ≤ undone s.done (length g.lines) = less in (
         record {
           consistent = k;
-          up_to_now = subst (λ u. IsGreedyUpTo g p new.slots u) (sym time) (subst (λ xs. IsGreedyUpTo g p xs next) (sym slots) up_to_now);
+          up_to_now = subst (λ b. IsGreedyUpTo g b p new.slots new.time) (sym same) (subst (λ u. IsGreedyUpTo g s.by_columns p new.slots u) (sym time) (subst (λ xs. IsGreedyUpTo g s.by_columns p xs next) (sym slots) up_to_now));
           done_lines = record {
             finished = λ i d. (let f = finished i d in (f.0, subst (λ xs. HasSlot xs i f.0) (sym slots) f.1, subst (λ u. f.0.finish ≤ u) (sym time) f.2));
             marked = λ i f. marked i (f.0, subst (λ xs. HasSlot xs i f.0) slots f.1, subst (λ u. f.0.finish ≤ u) time f.2);
           };
           lowest_first = record {
             lower = λ i y h at. absurd (started_before i y h at);
-            excludes = λ i y h at. absurd (started_before i y h at);
+            hinders = λ i y h at. absurd (started_before i y h at);
           };
           small = record {
             time = (
@@ -122,6 +123,7 @@ retimed g p s rest t k = record {
   started_free = k.started_free;
   finished_started = k.finished_started;
   queued = λ q i h. (let w = k.queued q i h in (record { line = w.0.line; free = w.0.free; comes = w.0.comes; waits = w.0.waits }, w.1));
+  one_place = k.one_place;
   all_queued = λ i w. k.all_queued i (record { line = w.line; free = w.free; comes = w.comes; waits = w.waits });
   holders = k.holders;
   runs = k.runs;
@@ -135,7 +137,7 @@ retimed g p s rest t k = record {
 pub all_finished : (g : GraphValue) (p : ℕ) (s cur : State) (m next : ℕ) → HasStartedAll g p s → IsNextFinish s next → IsFinishing g p s cur m next → length cur.running ≤ m →
     IsSimulation g p (record cur { time = next }) × (undone cur.done (length g.lines) < undone s.done (length g.lines))
 all_finished g p s cur m next r n f all =
-    finish_goes_on g p s (record cur { time = next }) next r n (retimed g p cur [] next f.consistent) f.slots refl f.finished marked
+    finish_goes_on g p s (record cur { time = next }) next r n (retimed g p cur [] next f.consistent) f.by_columns f.slots refl f.finished marked
   where
     marked : (i : ℕ) → FinishedBy s.slots next i → is_done cur.done i ≡ true
     marked i fin = elim (cases_Bool (is_done cur.done i)) [
@@ -153,6 +155,7 @@ all_finished g p s cur m next r n f all =
 pub finishing_begins : (g : GraphValue) (p : ℕ) (s : State) (next : ℕ) → HasStartedAll g p s → IsNextFinish s next → IsFinishing g p s s 0 next
 finishing_begins g p s next r n = record {
   consistent = r.simulation.consistent;
+  by_columns = refl;
   slots = refl;
   finished = λ i d. (
       let f = r.simulation.done_lines.finished i d in
@@ -168,6 +171,7 @@ finishing_begins g p s next r n = record {
 pub finishing_more : (g : GraphValue) (p : ℕ) (s cur new : State) (q next : ℕ) → IsFinishing g p s cur q next → IsConsistent g p new [] → FinishesOn cur new q next → IsFinishing g p s new (q + 1) next
 finishing_more g p s cur new q next f k o = record {
   consistent = k;
+  by_columns = o.by_columns ∙ f.by_columns;
   slots = o.slots ∙ f.slots;
   finished = λ i d. elim (o.done i d) [ inl old ↦ f.finished i old | inr fin ↦ subst (λ xs. FinishedBy xs next i) f.slots fin ];
   keeps = λ i d. o.keeps i (f.keeps i d);
@@ -182,6 +186,7 @@ finishing_more g p s cur new q next f k o = record {
 -- the line on a processor, where it finishes and where it does not
 pub finishes_none : (s : State) (q next : ℕ) → runs_at s.running q ≡ None → FinishesOn s s q next
 finishes_none s q next none = record {
+  by_columns = refl;
   time = refl;
   slots = refl;
   done = λ i d. inl d;
@@ -192,6 +197,7 @@ finishes_none s q next none = record {
 
 pub finishes_later : (s : State) (q next line : ℕ) → runs_at s.running q ≡ Some line → ((x : Slot) → HasSlot s.slots line x → x.finish ≢ next) → FinishesOn s s q next
 finishes_later s q next line on later = record {
+  by_columns = refl;
   time = refl;
   slots = refl;
   done = λ i d. inl d;
@@ -202,6 +208,7 @@ finishes_later s q next line on later = record {
 
 pub finishes_now : (g : GraphValue) (p : ℕ) (s new : State) (q next line : ℕ) → IsConsistent g p s [] → runs_at s.running q ≡ Some line → ((x : Slot) → HasSlot s.slots line x → x.finish ≡ next) → Finishes g s new q line → FinishesOn s new q next
 finishes_now g p s new q next line k on at f = record {
+  by_columns = f.by_columns;
   time = f.time;
   slots = f.slots;
   done = λ i d. elim (cases_eq i line) [

@@ -1,5 +1,5 @@
 -- A plan that is valid and greedy so far, with one more line.
-use Rattle.std.proofs.Common.{◌≡◌, ℕ, ◌+◌, ◌<◌, ◌≤◌, ◌⊎◌, inl, inr, List, length, sym, ◌∙◌, ap, subst, arith}
+use Rattle.std.proofs.Common.{◌≡◌, ℕ, ◌+◌, ◌<◌, ◌≤◌, Bool, true, ◌⊎◌, inl, inr, List, length, sym, ◌∙◌, ap, subst, arith}
 use Rattle.std.specs.Prelude.{Contains, Option, Some, slice_set}
 use Rattle.std.proofs.lemmas.Bool.{cases_lt, cases_eq}
 use Rattle.std.proofs.lemmas.List.{length-set}
@@ -10,7 +10,9 @@ use Rattle.graph_terms.specs.Edges.{edges}
 use Rattle.graph_terms.proofs.Public.{both_shared_swap}
 use Rattle.realm_timeline.specs.declared.slot.Slot.{Slot}
 use Rattle.realm_timeline.specs.Plan.{cost, Planned, HasSlot, IsPartialPlan, FinishedBy, ReleasedBy, Exclude, IsValid, IsMoment, IsReadyAt, IsFreeFor, MayStart}
-use Rattle.realm_timeline.specs.State.{IsGreedyUpTo}
+use Rattle.realm_timeline.specs.State.{MayStartNow, IsGreedyUpTo}
+use Rattle.realm_timeline.specs.Columns.{Collide, AreApart}
+use Rattle.realm_timeline.proofs.Hindering.{collide_swapped}
 use Rattle.realm_timeline.proofs.SlotFacts.{takes_time}
 use Rattle.realm_timeline.proofs.ConsistentStart.{slot_here, slot_there}
 
@@ -27,7 +29,7 @@ pub record RunsBelow (plan : List (Option Slot)) (t r line : ℕ) : Type 0 where
   pub until : t < slot.finish
   pub lower : slot.start ≡ t → other < line
 
-module _ (g : GraphValue) (p : ℕ) (plan : List (Option Slot)) (t : ℕ) (sf : IsGreedyUpTo g p plan t) (line : ℕ) (x : Slot) (no_slot : (y : Slot) → HasSlot plan line y → ⊥) (below : line < length plan) (starts : x.start ≡ t) (finishes : x.finish ≡ t + cost g line) where
+module _ (g : GraphValue) (b : Bool) (p : ℕ) (plan : List (Option Slot)) (t : ℕ) (sf : IsGreedyUpTo g b p plan t) (line : ℕ) (x : Slot) (no_slot : (y : Slot) → HasSlot plan line y → ⊥) (below : line < length plan) (starts : x.start ≡ t) (finishes : x.finish ≡ t + cost g line) where
   next : List (Option Slot)
   next = slice_set plan line (Some x)
 
@@ -97,8 +99,16 @@ module _ (g : GraphValue) (p : ℕ) (plan : List (Option Slot)) (t : ℕ) (sf : 
     first = λ k excludes lower y h. m.first k excludes lower y (more k y h);
   }
 
+  now_fewer : (u i : ℕ) → u ≤ t → MayStartNow g b p (slice_set plan line (Some x)) u i → MayStartNow g b p plan u i
+  now_fewer u i early m = record {
+    ready = ready_fewer u i early m.ready;
+    may = may_fewer u i m.may;
+    free = λ on k c y h. m.free on k c y (more k y h);
+    first = λ on k c lower y h. m.first on k c lower y (more k y h);
+  }
+
   module _ (planned : Planned g line) (known : x.processor < p) (sources : (e : Edge) → Contains (edges g) e → e.to ≡ line → FinishedBy plan t e.from) (released : (i : ℕ) (y : Slot) → Exclude g i line → HasSlot plan i y → ReleasedBy g plan t i)
-      (free : (i : ℕ) (y : Slot) → HasSlot plan i y → y.processor ≡ x.processor → y.finish ≤ t) (busy : (r : ℕ) → r < x.processor → RunsBelow plan t r line) where
+      (columns : b ≡ true → (i : ℕ) (y : Slot) → Collide g i line → HasSlot plan i y → y.finish ≤ t) (free : (i : ℕ) (y : Slot) → HasSlot plan i y → y.processor ≡ x.processor → y.finish ≤ t) (busy : (r : ℕ) → r < x.processor → RunsBelow plan t r line) where
     some_more : IsPartialPlan g p (slice_set plan line (Some x))
     some_more = record {
       each_line = simp length-set sf.some.each_line;
@@ -146,6 +156,18 @@ module _ (g : GraphValue) (p : ℕ) (plan : List (Option Slot)) (t : ℕ) (sf : 
       ];
     }
 
+    apart_more : b ≡ true → AreApart g (slice_set plan line (Some x))
+    apart_more on i k c y z hy hz = elim (slot_case i y hy) [
+      | inl new ↦ elim (slot_case k z hz) [
+        | inl also ↦ absurd (c.different (new.0 ∙ sym also.0))
+        | inr old ↦ (let a : z.finish ≤ t = columns on k z (subst (Collide g k) new.0 (collide_swapped g i k c)) old in let s : y.start ≡ t = start_of y new.1 in inr (omega arith))
+      ]
+      | inr old ↦ elim (slot_case k z hz) [
+        | inl new ↦ (let a : y.finish ≤ t = columns on i y (subst (Collide g i) new.0 c) old in let s : z.start ≡ t = start_of z new.1 in inl (omega arith))
+        | inr also ↦ sf.apart on i k c y z old also
+      ]
+    ]
+
     free_of_new : IsFreeFor (slice_set plan line (Some x)) t line x.processor
     free_of_new = record {
       before = λ k y h on before. elim (slot_case k y h) [
@@ -189,10 +211,11 @@ module _ (g : GraphValue) (p : ℕ) (plan : List (Option Slot)) (t : ℕ) (sf : 
       | inr above ↦ above
     ]
 
-    pub up_to_now_more : IsGreedyUpTo g p (slice_set plan line (Some x)) t
+    pub up_to_now_more : IsGreedyUpTo g b p (slice_set plan line (Some x)) t
     up_to_now_more = record {
       some = some_more;
       valid = valid_more;
+      apart = apart_more;
       moments = λ i y h. elim (slot_case i y h) [
         | inl new ↦ subst (IsMoment (slice_set plan line (Some x))) (sym (start_of y new.1)) (moment_more t sf.moment)
         | inr old ↦ moment_more y.start (sf.moments i y old)
@@ -212,8 +235,8 @@ module _ (g : GraphValue) (p : ℕ) (plan : List (Option Slot)) (t : ℕ) (sf : 
         | inr old ↦ sf.early i y old
       ];
       moment = moment_more t sf.moment;
-      greedy = λ u before moment i ready may. (
+      greedy = λ u before moment i may. (
           let early : u ≤ t = omega arith in
-          let r = sf.greedy u before (moment_fewer u early moment) i (ready_fewer u i early ready) (may_fewer u i may) in
+          let r = sf.greedy u before (moment_fewer u early moment) i (now_fewer u i early may) in
           (r.0, more i r.0 r.1, r.2));
     }

@@ -8,7 +8,7 @@ use Rattle.std.proofs.lemmas.List.Sums.{length-filter}
 use Rattle.std.proofs.lemmas.Option.{none-some}
 use Rattle.graph_terms.specs.declared.verb.Edge.{Edge}
 use Rattle.graph_terms.specs.declared.verb.EdgeKind.TheVariants as kind
-use Rattle.graph_terms.specs.Graph.{GraphValue, locks}
+use Rattle.graph_terms.specs.Graph.{GraphValue}
 use Rattle.graph_terms.specs.Edges.{edge, edges, edges_into}
 use Rattle.graph_terms.specs.Fits.{IsGraph}
 use Rattle.basics.proofs.ListFacts.{count_below-max, contains_none}
@@ -16,7 +16,7 @@ use Rattle.graph_terms.proofs.Public.{edges_in_range}
 use Rattle.realm_timeline.specs.declared.slot.Slot.{Slot}
 use Rattle.realm_timeline.specs.Plan.{slot_at, HasSlot}
 use Rattle.realm_timeline.specs.Queue.{QueueValue, queue_at, no_queue, has_line}
-use Rattle.realm_timeline.specs.State.{State, is_done, runs_at, waits_for, IsConsistent, IsSimulation, undone}
+use Rattle.realm_timeline.specs.State.{State, is_done, runs_at, waits_for, count_of_queues, IsConsistent, IsSimulation, undone}
 use Rattle.realm_timeline.specs.Steps.{CountsDown, first_edges}
 use Rattle.realm_timeline.proofs.EdgeCounts.{bit, count_cons, count_one, count_zero, count_split, counted_none}
 use Rattle.realm_timeline.proofs.LoopFacts.{no_edge, next_waits, next_counted}
@@ -117,9 +117,9 @@ module _ (g : GraphValue) (p : ℕ) (s : State) (fresh : IsFresh g p s) where
       let into : length (edges_into g i) ≡ count_by (λ (e : Edge). e.to == i) (edges g) = length-filter (λ (e : Edge). e.to == i) (edges g) in
       omega arith
 
-  module _ (graph : IsGraph g) (count : length s.left ≡ length g.lines) (counts : (i : ℕ) → i < length g.lines → slice_index s.left i ≡ length (edges_into g i) + 1) (queues : s.queues ≡ replicate (2 * length (locks g) + 1) no_queue) where
+  module _ (graph : IsGraph g) (count : length s.left ≡ length g.lines) (counts : (i : ℕ) → i < length g.lines → slice_index s.left i ≡ length (edges_into g i) + 1) (queues : s.queues ≡ replicate (count_of_queues g s.by_columns) no_queue) where
     queue_is : (q : ℕ) → queue_at s.queues q ≡ no_queue
-    queue_is q = ap (λ xs. queue_at xs q) queues ∙ replicate_at (2 * length (locks g) + 1) q no_queue
+    queue_is q = ap (λ xs. queue_at xs q) queues ∙ replicate_at (count_of_queues g s.by_columns) q no_queue
 
     none_listed : (q i : ℕ) → has_line (queue_at s.queues q).lines i ≡ true → ⊥
     none_listed q i h = true≢false (sym h ∙ ap (λ (x : QueueValue). has_line x.lines i) (queue_is q))
@@ -148,14 +148,15 @@ module _ (g : GraphValue) (p : ℕ) (s : State) (fresh : IsFresh g p s) where
       slot_count = ap length fresh.slots ∙ length-replicate (length g.lines) None;
       done_count = ap length fresh.done ∙ length-replicate (length g.lines) false;
       left_count = count;
-      queue_count = ap length queues ∙ length-replicate (2 * length (locks g) + 1) no_queue;
+      queue_count = ap length queues ∙ length-replicate (count_of_queues g s.by_columns) no_queue;
       processor_count = ap length fresh.running ∙ length-replicate p None;
       left = left_is;
       started_free = λ i x h. absurd (no_slots i x h);
       finished_started = λ i d. absurd (none_done i d);
       queued = λ q i h. absurd (none_listed q i h);
+      one_place = λ q r i h. absurd (none_listed q i h);
       all_queued = λ i w. (let c : slice_index s.left i ≡ length (edges_into g i) + 1 = counts i w.line in let z : slice_index s.left i ≡ 0 = w.free in absurd (omega arith));
-      holders = λ q k. ((λ h. absurd (none_holds q k h)), (λ h. absurd (no_slots k h.1.slot h.1.has)));
+      holders = λ q k. ((λ h. absurd (none_holds q k h)), (λ h. elim h [ inl by_section ↦ absurd (no_slots k by_section.1.slot by_section.1.has) | inr by_use ↦ absurd (no_slots k by_use.1.slot by_use.1.has) ]));
       runs = λ q k h. absurd (none_runs q k h);
       running = λ k x h unf. absurd (no_slots k x h);
       ordered = λ i. ((λ c. absurd (contains_none i (subst (λ xs. Contains xs i) fresh.order c))), (λ h. absurd (no_slots i h.0 h.1)));
@@ -179,6 +180,7 @@ module _ (g : GraphValue) (p : ℕ) (s : State) (fresh : IsFresh g p s) where
         sources = λ e c x h. absurd (no_slots e.to x h);
         sections = λ i j excludes x y h. absurd (no_slots i x h);
       };
+      apart = λ on i j c x y h. absurd (no_slots i x h);
       moments = λ i x h. absurd (no_slots i x h);
       free = λ i x h. absurd (no_slots i x h);
       lowest = λ i x h. absurd (no_slots i x h);
@@ -187,14 +189,14 @@ module _ (g : GraphValue) (p : ℕ) (s : State) (fresh : IsFresh g p s) where
       greedy = λ u before. (let t : s.time ≡ 0 = fresh.time in absurd (omega arith));
     };
     done_lines = record { finished = λ i d. absurd (none_done i d); marked = λ i f. absurd (no_slots i f.0 f.1) };
-    lowest_first = record { lower = λ i x h. absurd (no_slots i x h); excludes = λ i x h. absurd (no_slots i x h) };
+    lowest_first = record { lower = λ i x h. absurd (no_slots i x h); hinders = λ i x h. absurd (no_slots i x h) };
     small = record {
       time = (let t : s.time ≡ 0 = fresh.time in let m : undone s.done (length g.lines) ≤ length g.lines = count_below-max (λ i. not (is_done s.done i)) (length g.lines) in omega arith);
       finishes = λ i x h. absurd (no_slots i x h);
     };
   }
 
-pub fresh_consistent : (g : GraphValue) (p : ℕ) (s : State) → IsFresh g p s → IsGraph g → length s.left ≡ length g.lines → ((i : ℕ) → i < length g.lines → slice_index s.left i ≡ length (edges_into g i) + 1) → s.queues ≡ replicate (2 * length (locks g) + 1) no_queue → IsConsistent g p s (first_edges g)
+pub fresh_consistent : (g : GraphValue) (p : ℕ) (s : State) → IsFresh g p s → IsGraph g → length s.left ≡ length g.lines → ((i : ℕ) → i < length g.lines → slice_index s.left i ≡ length (edges_into g i) + 1) → s.queues ≡ replicate (count_of_queues g s.by_columns) no_queue → IsConsistent g p s (first_edges g)
 fresh_consistent g p s fresh graph count counts queues = consistent_first g p s fresh graph count counts queues
 
 pub fresh_begins : (g : GraphValue) (p : ℕ) (s : State) → IsFresh g p s → IsConsistent g p s [] → IsSimulation g p s

@@ -38,6 +38,7 @@ IsFinishOn slots running q finish = MatchOption finish (runs_at running q ≡ No
 
 -- the line on a processor has finished if its finish is this time
 pub record FinishesOn (old new : State) (processor next : ℕ) : Type 0 where
+  pub by_columns : new.by_columns ≡ old.by_columns
   pub time : new.time ≡ old.time
   pub slots : new.slots ≡ old.slots
   pub done : (i : ℕ) → is_done new.done i ≡ true → (is_done old.done i ≡ true) ⊎ FinishedBy old.slots next i
@@ -48,6 +49,7 @@ pub record FinishesOn (old new : State) (processor next : ℕ) : Type 0 where
 -- the lines on the first n processors whose finish is this time have finished
 pub record IsFinishing (g : GraphValue) (processors : ℕ) (start now : State) (n next : ℕ) : Type 0 where
   pub consistent : IsConsistent g processors now []
+  pub by_columns : now.by_columns ≡ start.by_columns
   pub slots : now.slots ≡ start.slots
   pub finished : (i : ℕ) → is_done now.done i ≡ true → FinishedBy start.slots next i
   pub keeps : (i : ℕ) → is_done start.done i ≡ true → is_done now.done i ≡ true

@@ -8,19 +8,19 @@ ghost use Rattle.graph_meaning.specs.Path.{Reached};
 ghost use Rattle.graph_meaning.specs.Rules.{Accepted};
 ghost use Rattle.realm_timeline.specs.declared.slot.Slot.{Slot as SlotValue};
 ghost use Rattle.realm_timeline.specs.Plan.{slot_at, HasSlot, IsPlan, IsValid, IsGreedy};
-ghost use Rattle.realm_timeline.specs.Queue.{AllHeldOrEmpty, IsLowestPlace, no_queue};
-ghost use Rattle.realm_timeline.specs.State.{state_of, is_done, runs_at, IsConsistent, IsSimulation, HasStartedAll, AllBusy, undone};
-ghost use Rattle.realm_timeline.specs.Steps.{IsFirstIdle, idle_count, IsOffered, CountsDown, MarksFinished, Finishes, Starts};
+ghost use Rattle.realm_timeline.specs.Columns.{AreApart, IsGreedyByColumns};
+ghost use Rattle.realm_timeline.specs.Queue.{has_line, queue_at, IsUnheld, AllHeldOrEmpty, IsLowestPlace, no_queue};
+ghost use Rattle.realm_timeline.specs.State.{state_of, is_done, runs_at, joins, count_of_queues, IsConsistent, IsSimulation, HasStartedAll, AllBusy, undone};
+ghost use Rattle.realm_timeline.specs.Steps.{IsFirstIdle, IsOffered, CountsDown, MarksFinished, Finishes, Starts, Moves, GoesOn};
 ghost use Rattle.realm_timeline.specs.NextFinish.{IsNextFinish, IsSoonest, RunsHaveSlots, IsFinishOn, FinishesOn};
 ghost use Rattle.realm_timeline.specs.Order.{IsOrder};
 
-use crate::cost::{cost_of, queue_of, released};
-use crate::holding::{add_holder, remove_holder};
-use crate::queue::{Queue, insert_at, lowest_of, take_at};
+use crate::cost::{cost_of, count_of_queues, queue_of, released};
+use crate::holding::{add_holder, held_queue, remove_section, remove_uses};
+use crate::queue::{MAX_QUEUES, Queue, insert_at, lowest_at, lowest_of, remove_at};
 use crate::slot::Slot;
 use graph_meaning::laws::edges_between_lines;
 use graph_model::graph::Graph;
-use graph_terms::limits::MAX_LOCKS_OF_THREE;
 use index_spaces::NoMemory;
 use index_spaces::room::{filled, push};
 use std::alloc::Global;
@@ -28,6 +28,8 @@ use std::alloc::Global;
 /// The slots of the lines that have started so far, and what tells which lines may start next.
 #[derive(Drop)]
 pub(crate) struct Simulation {
+    /// Whether columns keep lines apart: a line that changes one runs beside no other that uses it.
+    pub(crate) by_columns: bool,
     /// The present time: 0, or a finish.
     pub(crate) time: u64,
     /// The slot of each line that has started.
@@ -38,8 +40,9 @@ pub(crate) struct Simulation {
     pub(crate) done: Vec<bool>,
     /// For each line how many edges enter it from lines that have not finished.
     pub(crate) left: Vec<usize>,
-    /// The lines that have not started, though their sources have finished: all but acquires in
-    /// queue 0, and the acquires of each reservation in two queues.
+    /// The lines that have not started, though their sources have finished: the acquires of each
+    /// reservation in two queues, and all others in queue 0 at first. Where columns keep lines apart,
+    /// each column has two queues too, in which lines wait for it.
     pub(crate) queues: Vec<Queue>,
     /// The line that each processor runs, if it runs one.
     pub(crate) running: Vec<Option<u32>>,
@@ -52,6 +55,7 @@ impl Simulation {
     pub(crate) fn of_all_lines(
         alloc: Global,
         graph: &Graph,
+        by_columns: bool,
         processors: u32,
     ) -> Result<Simulation, NoMemory>
         requires some { 0 < processors }
@@ -60,11 +64,13 @@ impl Simulation {
         ensures plan { IfOk result (λ r. IsPlan graph.now processors r.slots.items) }
         ensures reached { IfOk result (λ r. (i : ℕ) → i < length graph.now.lines → slot_at r.slots.items i ≡ None → Reached graph.now i) }
         ensures valid { IfOk result (λ r. IsValid graph.now r.slots.items) }
-        ensures greedy { IfOk result (λ r. IsGreedy graph.now processors r.slots.items) }
+        ensures apart { IfOk result (λ r. by_columns ≡ true → AreApart graph.now r.slots.items) }
+        ensures greedy { IfOk result (λ r. by_columns ≡ false → IsGreedy graph.now processors r.slots.items) }
+        ensures greedy_by_columns { IfOk result (λ r. by_columns ≡ true → IsGreedyByColumns graph.now processors r.slots.items) }
         ensures order { IfOk result (λ r. IsOrder graph.now r.order.items) }
     {
         let _ = graph.lines();
-        let mut simulation = Simulation::new(alloc, graph, processors)?;
+        let mut simulation = Simulation::new(alloc, graph, by_columns, processors)?;
         simulation.start_all(graph)?;
         while let Some(next) = simulation.next_finish() {
             simulation.finish_all(graph, next)?;
@@ -76,19 +82,26 @@ impl Simulation {
     /// The simulation at time 0, before any line has started. Each line waits for one edge more than
     /// enter it, and that one is passed here, so that lines without a source are put into their queues
     /// in the same way as all others.
-    fn new(alloc: Global, graph: &Graph, processors: u32) -> Result<Simulation, NoMemory>
+    fn new(
+        alloc: Global,
+        graph: &Graph,
+        by_columns: bool,
+        processors: u32,
+    ) -> Result<Simulation, NoMemory>
         requires few { processors ≤ 8 }
+        ensures by_columns { IfOk result (λ r. r.by_columns ≡ by_columns) }
         ensures simulation { IfOk result (λ r. IsSimulation graph.now processors (state_of r)) }
         ensures count { IfOk result (λ r. length r.running.items ≡ processors) }
     {
         let lines = graph.lines();
         let mut simulation = Simulation {
+            by_columns,
             time: 0,
             slots: filled(alloc, None, lines as usize)?,
             order: Vec::new(alloc),
             done: filled(alloc, false, lines as usize)?,
             left: first_counts(alloc, graph)?,
-            queues: empty_queues(alloc, 2 * graph.locks() + 1)?,
+            queues: empty_queues(alloc, count_of_queues(graph, by_columns))?,
             running: filled(alloc, None, processors as usize)?,
         };
         for line in 0..lines {
@@ -103,13 +116,14 @@ impl Simulation {
         requires accepted { Accepted graph.now }
         requires simulation { IsSimulation graph.now (length self.old.running.items) (state_of self.old) }
         ensures started_all { OnOk result (HasStartedAll graph.now (length self.old.running.items) (state_of self.new)) }
+        ensures by_columns { OnOk result (self.new.by_columns ≡ self.old.by_columns) }
         ensures done { OnOk result (self.new.done.items ≡ self.old.done.items) }
         ensures count { OnOk result (length self.new.running.items ≡ length self.old.running.items) }
     {
-        let _ = graph.locks();
+        let _ = count_of_queues(graph, self.by_columns);
         let _ = graph.lines();
         while let Some((place, processor)) = self.next_start() {
-            self.start(graph, place, processor)?;
+            self.go_on(graph, place, processor)?;
         }
         Ok(())
     }
@@ -118,7 +132,7 @@ impl Simulation {
     /// lowest that runs no line. None where no line may start now.
     fn next_start(&self) -> Option<(u32, u32)>
         requires few { length self.now.running.items ≤ 8 }
-        requires queues { length self.now.queues.items ≤ 2 * MAX_LOCKS_OF_THREE + 1 }
+        requires queues { length self.now.queues.items ≤ MAX_QUEUES }
         ensures { MatchOption result (AllBusy self.now.running.items ⊎ AllHeldOrEmpty self.now.queues.items)
             (λ x. IsLowestPlace self.now.queues.items x.0 × IsFirstIdle self.now.running.items x.1) }
     {
@@ -140,19 +154,64 @@ impl Simulation {
         None
     }
 
-    /// Starts the lowest line of the queue at a place on a processor.
-    fn start(&mut self, graph: &Graph, place: u32, processor: u32) -> Result<(), NoMemory>
+    /// Starts the lowest line of the queue at a place on a processor, or puts it into another queue
+    /// that is held and in which it has to wait.
+    fn go_on(&mut self, graph: &Graph, place: u32, processor: u32) -> Result<(), NoMemory>
         requires accepted { Accepted graph.now }
         requires simulation { IsSimulation graph.now (length self.old.running.items) (state_of self.old) }
         requires place { IsLowestPlace self.old.queues.items place }
         requires processor { IsFirstIdle self.old.running.items processor }
-        ensures { OnOk result ((line : ℕ) × Starts graph.now (state_of self.old) (state_of self.new) place processor line) }
+        ensures { OnOk result ((line : ℕ) × GoesOn graph.now (state_of self.old) (state_of self.new) place processor line) }
     {
         let _ = graph.lines();
-        let Some(line) = take_at(&mut self.queues, place) else {
+        let Some(line) = lowest_at(&self.queues, place) else {
             return Ok(());
         };
-        add_holder(&mut self.queues, graph, line)?;
+        match held_queue(&self.queues, graph, self.by_columns, line) {
+            Some(other) => self.move_line(graph, line, place, other),
+            None => self.start(graph, line, place, processor),
+        }
+    }
+
+    /// Puts a line into another queue.
+    fn move_line(
+        &mut self,
+        graph: &Graph,
+        line: u32,
+        place: u32,
+        other: u32,
+    ) -> Result<(), NoMemory>
+        requires place { place < length self.old.queues.items }
+        requires other { other < length self.old.queues.items }
+        requires listed { has_line (queue_at self.old.queues.items place).lines line ≡ true }
+        requires joined { joins graph.now self.old.by_columns line other ≡ true }
+        requires held { (k : ℕ) × (has_line (queue_at self.old.queues.items other).holders k ≡ true) }
+        ensures { OnOk result (Moves graph.now (state_of self.old) (state_of self.new) place other line) }
+    {
+        remove_at(&mut self.queues, place, line);
+        insert_at(&mut self.queues, other, line)
+    }
+
+    /// Starts a line, the lowest of the queue at a place, on a processor.
+    fn start(
+        &mut self,
+        graph: &Graph,
+        line: u32,
+        place: u32,
+        processor: u32,
+    ) -> Result<(), NoMemory>
+        requires accepted { Accepted graph.now }
+        requires simulation { IsSimulation graph.now (length self.old.running.items) (state_of self.old) }
+        requires place { IsLowestPlace self.old.queues.items place }
+        requires processor { IsFirstIdle self.old.running.items processor }
+        requires listed { has_line (queue_at self.old.queues.items place).lines line ≡ true }
+        requires lowest { (i : ℕ) → has_line (queue_at self.old.queues.items place).lines i ≡ true → line ≤ i }
+        requires unheld { (q : ℕ) → joins graph.now self.old.by_columns line q ≡ true → IsUnheld (queue_at self.old.queues.items q) }
+        ensures { OnOk result (Starts graph.now (state_of self.old) (state_of self.new) place processor line) }
+    {
+        let _ = graph.lines();
+        remove_at(&mut self.queues, place, line);
+        add_holder(&mut self.queues, graph, self.by_columns, line)?;
         let finish = self.time + cost_of(graph, line);
         push(&mut self.order, line)?;
         self.slots[line as usize] = Some(Slot {
@@ -219,6 +278,7 @@ impl Simulation {
         requires started_all { HasStartedAll graph.now (length self.old.running.items) (state_of self.old) }
         requires next { IsNextFinish (state_of self.old) next }
         ensures simulation { OnOk result (IsSimulation graph.now (length self.old.running.items) (state_of self.new)) }
+        ensures by_columns { OnOk result (self.new.by_columns ≡ self.old.by_columns) }
         ensures fewer { OnOk result (undone self.new.done.items (length graph.now.lines) < undone self.old.done.items (length graph.now.lines)) }
     {
         let processors = self.running.len() as u32;
@@ -265,18 +325,19 @@ impl Simulation {
         Ok(())
     }
 
-    /// Marks a line as finished, and the reservation that it releases as free.
+    /// Marks a line as finished, and its columns and the reservation that it releases as free.
     fn mark_finished(&mut self, graph: &Graph, processor: u32, line: u32)
         requires processor { processor < length self.old.running.items }
         requires line { line < length graph.now.lines }
         requires done { length self.old.done.items ≡ length graph.now.lines }
-        requires queues { length self.old.queues.items ≡ 2 * length (locks graph.now) + 1 }
+        requires queues { length self.old.queues.items ≡ count_of_queues graph.now self.old.by_columns }
         ensures { MarksFinished graph.now (state_of self.old) (state_of self.new) processor line }
     {
         self.running[processor as usize] = None;
         self.done[line as usize] = true;
+        remove_uses(&mut self.queues, graph, self.by_columns, line);
         if let Some(acquire) = released(graph, line) {
-            remove_holder(&mut self.queues, graph, acquire);
+            remove_section(&mut self.queues, graph, self.by_columns, acquire);
         }
     }
 
@@ -286,7 +347,7 @@ impl Simulation {
         requires line { line < length graph.now.lines }
         requires known { length self.old.left.items ≡ length graph.now.lines }
         requires waits { 0 < slice_index self.old.left.items line }
-        requires queues { length self.old.queues.items ≡ 2 * length (locks graph.now) + 1 }
+        requires queues { length self.old.queues.items ≡ count_of_queues graph.now self.old.by_columns }
         ensures { OnOk result (CountsDown graph.now (state_of self.old) (state_of self.new) line) }
     {
         let left = self.left[line as usize] - 1;
@@ -299,7 +360,7 @@ impl Simulation {
 /// Puts a line into its queue if it is offered.
 fn offer(queues: &mut Vec<Queue>, graph: &Graph, line: u32, offered: bool) -> Result<(), NoMemory>
     requires line { line < length graph.now.lines }
-    requires queues { length queues.old.items ≡ 2 * length (locks graph.now) + 1 }
+    requires queues { 2 * length (locks graph.now) + 1 ≤ length queues.old.items }
     ensures count { OnOk result (length queues.new.items ≡ length queues.old.items) }
     ensures offered { OnOk result (IsOffered graph.now queues.old.items queues.new.items line offered) }
 {

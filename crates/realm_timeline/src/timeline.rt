@@ -4,7 +4,9 @@ ghost use Rattle.std.specs.Prelude.{◌≡◌, ℕ, ◌+◌, ◌-◌, ◌*◌, �
 ghost use Rattle.graph_meaning.specs.Path.{Reached};
 ghost use Rattle.realm_timeline.specs.declared.slot.Slot.{Slot as SlotValue};
 ghost use Rattle.realm_timeline.specs.Plan.{IsPlan, IsValid, IsGreedy, slot_at, plan_length, total_cost, planned_cost, finish_or_0};
+ghost use Rattle.realm_timeline.specs.Columns.{AreApart, IsGreedyByColumns};
 ghost use Rattle.realm_timeline.specs.Chains.{IsCritical, chain_cost};
+ghost use Rattle.realm_timeline.specs.Order.{IsOrder};
 ghost use Rattle.realm_timeline.specs.Laws.{AcquiresNone};
 
 use crate::cost::cost_of;
@@ -123,7 +125,51 @@ pub fn plan(alloc: Global, checked: &Checked, processors: u32) -> Result<Timelin
     plans_are_as_long_as_chains();
     greedy_plans_are_short();
     let graph = checked.graph();
-    let simulation = Simulation::of_all_lines(alloc, graph, processors)?;
+    let simulation = Simulation::of_all_lines(alloc, graph, false, processors)?;
+    let timeline = timeline_of(alloc, graph, simulation)?;
+    Ok(timeline)
+}
+
+/// Plans an accepted graph as `plan` does, but that a line which changes a column runs beside no other
+/// that uses it: it starts once each of these that has started has finished. Lines that only read a
+/// column run side by side.
+///
+/// `NoMemory`: memory was refused; the graph stays as it is.
+pub fn plan_by_columns(
+    alloc: Global,
+    checked: &Checked,
+    processors: u32,
+) -> Result<Timeline, NoMemory>
+    requires some { 1 ≤ processors }
+    requires few { processors ≤ 8 }
+    ensures plan { IfOk result (λ t. IsPlan checked.now.graph processors t.plan) }
+    ensures each_line { IfOk result (λ t. length t.plan ≡ length checked.now.graph.lines) }
+    ensures reached { IfOk result (λ t. (i : ℕ) → i < length checked.now.graph.lines → slot_at t.plan i ≡ None → Reached checked.now.graph i) }
+    ensures valid { IfOk result (λ t. IsValid checked.now.graph t.plan) }
+    ensures apart { IfOk result (λ t. AreApart checked.now.graph t.plan) }
+    ensures greedy { IfOk result (λ t. IsGreedyByColumns checked.now.graph processors t.plan) }
+    ensures length { IfOk result (λ t. t.span ≡ plan_length t.plan) }
+    ensures total { IfOk result (λ t. t.total ≡ total_cost checked.now.graph t.plan) }
+    ensures critical { IfOk result (λ t. IsCritical checked.now.graph t.critical) }
+    ensures lines { IfOk result (λ t. (k i : ℕ) → slice_get t.critical k ≡ Some i → i < length checked.now.graph.lines) }
+    ensures critical_cost { IfOk result (λ t. t.critical_cost ≡ chain_cost checked.now.graph t.critical) }
+{
+    let graph = checked.graph();
+    let simulation = Simulation::of_all_lines(alloc, graph, true, processors)?;
+    let timeline = timeline_of(alloc, graph, simulation)?;
+    Ok(timeline)
+}
+
+/// The timeline of a simulation at its end.
+fn timeline_of(alloc: Global, graph: &Graph, simulation: Simulation) -> Result<Timeline, NoMemory>
+    requires order { IsOrder graph.now simulation.order.items }
+    requires each_line { length simulation.slots.items ≡ length graph.now.lines }
+    ensures plan { IfOk result (λ t. t.plan ≡ simulation.slots.items) }
+    ensures length { IfOk result (λ t. t.span ≡ plan_length simulation.slots.items) }
+    ensures total { IfOk result (λ t. t.total ≡ total_cost graph.now simulation.slots.items) }
+    ensures critical { IfOk result (λ t. IsCritical graph.now t.critical) }
+    ensures critical_cost { IfOk result (λ t. t.critical_cost ≡ chain_cost graph.now t.critical) }
+{
     let (critical, critical_cost) = critical_of(alloc, graph, &simulation.order)?;
     let length = length_of(&simulation.slots);
     let total = total_of(graph, &simulation.slots);

@@ -4,3 +4,4 @@ pub mod MadeRequests
 pub mod Serving
 pub mod Requests
 pub mod Ending
+pub mod InPieces

@@ -3,14 +3,18 @@
 ghost use Rattle.std.specs.Prelude.{◌≡◌, ℕ, ◌<◌, ◌≤◌, length, Some, slice_get, IfOk};
 ghost use Rattle.graph_meaning.specs.Evaluation.{outcome};
 ghost use Rattle.graph_meaning.specs.Trace.{IsLawful};
+ghost use Rattle.column_pieces.specs.Pieces.{ArePieces, graph_of_pieces};
 
+use column_pieces::laws::{outcome_of_pieces, traces_of_pieces};
 use command_line::request::{Engine, HintKind, MAX_SLOTS, MAX_WORKERS, Request};
 use free_engine::{HintQueue, run_free};
-use graph_model::graph::Graph;
 use graph_terms::outcome::Outcome;
 use home_queues::HomeQueues;
 use index_spaces::NoMemory;
+use joined_columns::joining::join;
+use joined_columns::laws::outcomes_are_over;
 use lock_engine::{Turn, run_turn};
+use piece_graphs::{CutGraph, checked_pieces, cut_columns};
 use race_check::checked::Checked;
 use realm_io::Gate;
 use run_core::Core;
@@ -22,8 +26,61 @@ use std::thread::Threads;
 /// The slots of a run where none are given.
 const DEFAULT_SLOTS: u32 = 256;
 
-/// Runs a graph by the engine and by as many workers as the request says. It needs no more slots than there may be.
+/// The fewest workers for whom columns are cut: one alone gains nothing by it.
+const CUT_WORKERS: u32 = 2;
+
+/// Runs a graph by the engine and by as many workers as the request says, in pieces where its columns have
+/// them. It needs no more slots than there may be.
 pub(crate) fn run_graph<R: Threads + Wait + Sync, G: Gate>(
+    rt: &R,
+    alloc: Global,
+    request: &Request,
+    checked: &Checked,
+    gate: &G,
+) -> Result<Outcome, NoMemory>
+    requires workers { request.now.workers ≤ MAX_WORKERS }
+    requires need { checked.now.need ≤ MAX_SLOTS }
+    ensures outcome { IfOk result (λ o. o ≡ outcome checked.now.graph o.trace) }
+    ensures lawful { IfOk result (λ o. IsLawful checked.now.graph o.trace) }
+    ensures lines { IfOk result (λ o. (k i : ℕ) → slice_get o.trace k ≡ Some i → i < length checked.now.graph.lines) }
+{
+    if request.workers < CUT_WORKERS {
+        return run_whole(rt, alloc, request, checked, gate);
+    }
+    match cut_columns(alloc, checked.graph())? {
+        Some(cut) => run_in_pieces(rt, alloc, request, checked, cut, gate),
+        None => run_whole(rt, alloc, request, checked, gate),
+    }
+}
+
+/// Runs the graph of the pieces of a graph, which needs no check, and puts together what it gives.
+fn run_in_pieces<R: Threads + Wait + Sync, G: Gate>(
+    rt: &R,
+    alloc: Global,
+    request: &Request,
+    checked: &Checked,
+    cut: CutGraph,
+    gate: &G,
+) -> Result<Outcome, NoMemory>
+    requires workers { request.now.workers ≤ MAX_WORKERS }
+    requires need { checked.now.need ≤ MAX_SLOTS }
+    requires pieces { ArePieces checked.now.graph cut.pieces.items }
+    requires graph { cut.graph ≡ graph_of_pieces checked.now.graph cut.pieces.items }
+    ensures outcome { IfOk result (λ o. o ≡ outcome checked.now.graph o.trace) }
+    ensures lawful { IfOk result (λ o. IsLawful checked.now.graph o.trace) }
+    ensures lines { IfOk result (λ o. (k i : ℕ) → slice_get o.trace k ≡ Some i → i < length checked.now.graph.lines) }
+{
+    outcome_of_pieces();
+    outcomes_are_over();
+    traces_of_pieces();
+    let CutGraph { graph, pieces } = cut;
+    let in_pieces = checked_pieces(checked, graph, &pieces);
+    let outcome = run_whole(rt, alloc, request, &in_pieces, gate)?;
+    join(alloc, checked.graph(), &pieces, outcome)
+}
+
+/// Runs a graph by the engine and by as many workers as the request says, each column as one.
+fn run_whole<R: Threads + Wait + Sync, G: Gate>(
     rt: &R,
     alloc: Global,
     request: &Request,

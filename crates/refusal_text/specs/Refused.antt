@@ -67,13 +67,6 @@ refused_two g rule i j = codes "refused " ++ (rule ++ (codes " " ++ (line_name g
 abbrev pub cycle_text : GraphValue → TextLines → CycleReason → List ℕ
 cycle_text g ls r = refused_one g (codes "cycle") r.line ++ (numbered g ls r.line ++ (codes "a shortest cycle through it:\n" ++ edges_text g ls r.cycle.items))
 
-abbrev pub unreleased_by : GraphValue → TextLines → Option ℕ → List ℕ
-unreleased_by g ls None = codes "no line releases it\n"
-unreleased_by g ls (Some k) = codes "its release does not wait for it:\n" ++ numbered g ls k
-
-abbrev pub unreleased_text : GraphValue → TextLines → UnreleasedReason → List ℕ
-unreleased_text g ls r = refused_one g (codes "unreleased") r.acquire ++ (numbered g ls r.acquire ++ unreleased_by g ls r.release)
-
 abbrev pub entered_text : GraphValue → TextLines → Option (Vec Edge Global) → List ℕ
 entered_text g ls None = codes "and not after it\n"
 entered_text g ls (Some p) = codes "and after it, but never:\n" ++ edges_text g ls p.items
@@ -109,6 +102,18 @@ further_name g e = codes " " ++ line_name g e
 abbrev pub write_text : GraphValue → ℕ → ℕ → List ℕ → List ℕ
 write_text g r q on =
     codes "put a mergei between them:\nNAME = mergei" ++ (flat_map (further_name g) (waited q on) ++ (codes "\n" ++ (line_name g r ++ (codes " = release " ++ (line_name g q ++ codes " on NAME\n")))))
+
+-- of one that is on no line
+abbrev pub bare_text : GraphValue → ℕ → ℕ → List ℕ → List ℕ
+bare_text g r q [] = write_text g r q []
+bare_text g r q (e ∷ es) = []
+
+abbrev pub unreleased_by : GraphValue → TextLines → ℕ → Option ℕ → List ℕ
+unreleased_by g ls q None = codes "no line releases it\n"
+unreleased_by g ls q (Some k) = codes "its release does not wait for it:\n" ++ (numbered g ls k ++ bare_text g k q (on_of g k))
+
+abbrev pub unreleased_text : GraphValue → TextLines → UnreleasedReason → List ℕ
+unreleased_text g ls r = refused_one g (codes "unreleased") r.acquire ++ (numbered g ls r.acquire ++ unreleased_by g ls r.acquire r.release)
 
 abbrev pub release_text : GraphValue → TextLines → ReleaseReason → List ℕ
 release_text g ls r =

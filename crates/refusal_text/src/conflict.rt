@@ -5,11 +5,11 @@ ghost use Rattle.std.specs.List.{list_any};
 ghost use Rattle.graph_terms.specs.Graph.{columns, data_columns, line_passes, is_shared};
 ghost use Rattle.graph_terms.specs.Reservations.{both_shared};
 ghost use Rattle.explain_graph.specs.Explanation.{NamesMeeting, NamesRace};
-ghost use Rattle.refusal_text.specs.Refused.{mode_word, any_column_name, shared_text, meeting_text, on_line, on_merge, advice_by, wait_text, order_text, form_text, advice_text, on_of, most_told, told_few, few_lines_text, in_sections, are_equal, takes, of_one_lock, have_pair, none_text, turn_text, turns_text, pair_by, pair_text, pairs_with, pairs_text, apart_text, named_text, ordered_text, besides_text, sections_text, topmost_text, race_text};
+ghost use Rattle.refusal_text.specs.Refused.{mode_word, any_column_name, shared_text, meeting_text, on_line, on_merge, advice_by, wait_text, order_text, form_text, advice_text, most_told, told_few, few_lines_text, in_sections, are_equal, takes, of_one_lock, have_pair, none_text, turn_text, turns_text, pair_by, pair_text, pairs_with, pairs_text, apart_text, named_text, ordered_text, besides_text, sections_text, topmost_text, race_text};
 ghost use Rattle.explain_text.specs.Lines.{by_number};
 
 use crate::bounds::MAX_SECTIONS;
-use crate::lines::{put_lines, put_name};
+use crate::lines::{on_of, put_lines, put_name};
 use crate::orders::lines_need_order;
 use crate::refused::put_refused_two;
 use explain_graph::reasons::{ConflictReason, OtherRace, Sections};
@@ -219,16 +219,6 @@ fn put_wait(
     put_by_number(text, graph, lines, line)?;
     text.put(b" ")?;
     put_advice_by(text, graph, on_of(graph, line), event)
-}
-
-/// The events behind the `on` of a line. None also where there is no such line.
-fn on_of(graph: &Graph, line: u32) -> &[u32]
-    ensures { result.now ≡ on_of graph.now line }
-{
-    if line >= graph.lines() {
-        return &[];
-    }
-    graph.line(line).on.as_slice()
 }
 
 /// Puts on what a line is to be, which is on other lines or on none.

@@ -1,8 +1,8 @@
-//! Names of lines, and lines with their numbers.
+//! Names of lines, lines with their numbers, and what lines are on.
 
 ghost use Rattle.std.specs.Prelude.{◌≡◌, ◌++◌, flat_map, OnOk};
 ghost use Rattle.graph_terms.specs.Spelling.{line_name};
-ghost use Rattle.refusal_text.specs.Refused.{further_name, lines_text};
+ghost use Rattle.refusal_text.specs.Refused.{further_name, lines_text, on_of};
 
 use explain_text::lines::put_numbered;
 use explain_text::{Lines, Text};
@@ -50,4 +50,14 @@ pub(crate) fn put_lines(
         put_numbered(text, graph, lines, *i)?;
     }
     Ok(())
+}
+
+/// The events behind the `on` of a line. None also where there is no such line.
+pub(crate) fn on_of(graph: &Graph, line: u32) -> &[u32]
+    ensures { result.now ≡ on_of graph.now line }
+{
+    if line >= graph.lines() {
+        return &[];
+    }
+    graph.line(line).on.as_slice()
 }

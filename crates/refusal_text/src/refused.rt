@@ -4,10 +4,10 @@ ghost use Rattle.std.specs.Prelude.{◌≡◌, ◌<◌, ◌++◌, length, flat_m
 ghost use Rattle.graph_terms.specs.Graph.{locks};
 ghost use Rattle.graph_terms.specs.Spelling.{lock_name};
 ghost use Rattle.explain_graph.specs.Explanation.{AreEdges, NamesItems};
-ghost use Rattle.refusal_text.specs.Refused.{refused_one, refused_two, cycle_text, unreleased_by, unreleased_text, entered_text, section_text, descends_text, on_text, waited, further_name, write_text, release_text, explanation_text};
+ghost use Rattle.refusal_text.specs.Refused.{refused_one, refused_two, cycle_text, unreleased_by, unreleased_text, entered_text, section_text, descends_text, on_of, on_text, waited, further_name, write_text, bare_text, release_text, explanation_text};
 
 use crate::conflict::put_conflict;
-use crate::lines::{put_name, put_names};
+use crate::lines::{on_of, put_name, put_names};
 use explain_graph::Explanation;
 use explain_graph::reasons::{
     CycleReason, DescendsReason, ReleaseReason, SectionReason, UnreleasedReason,
@@ -96,7 +96,7 @@ fn put_unreleased(
 {
     put_refused_one(text, graph, b"unreleased", reason.acquire)?;
     put_numbered(text, graph, lines, reason.acquire)?;
-    put_unreleased_by(text, graph, lines, reason.release)
+    put_unreleased_by(text, graph, lines, reason.acquire, reason.release)
 }
 
 /// Puts the release that does not wait for its acquire, if there is one.
@@ -104,15 +104,33 @@ fn put_unreleased_by(
     text: &mut Text,
     graph: &Graph,
     lines: &Lines,
+    acquire: u32,
     release: Option<u32>,
 ) -> Result<(), NoMemory>
-    ensures { OnOk result (text.new ≡ text.old ++ unreleased_by graph.now lines.now release) }
+    ensures { OnOk result (text.new ≡ text.old ++ unreleased_by graph.now lines.now acquire release) }
 {
     let Some(release) = release else {
         return text.put(b"no line releases it\n");
     };
     text.put(b"its release does not wait for it:\n")?;
-    put_numbered(text, graph, lines, release)
+    put_numbered(text, graph, lines, release)?;
+    put_bare(text, graph, release, acquire, on_of(graph, release))
+}
+
+/// Puts the two lines to write for a release that is on no line.
+fn put_bare(
+    text: &mut Text,
+    graph: &Graph,
+    release: u32,
+    acquire: u32,
+    on: &[u32],
+) -> Result<(), NoMemory>
+    ensures { OnOk result (text.new ≡ text.old ++ bare_text graph.now release acquire on.now) }
+{
+    match on {
+        [] => put_write(text, graph, release, acquire, &[]),
+        _ => Ok(()),
+    }
 }
 
 /// Puts why a release must not wait for a line.

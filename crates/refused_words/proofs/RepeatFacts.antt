@@ -1,16 +1,14 @@
 -- Words that were seen, one after the other.
-use Rattle.std.proofs.Common.{◌≡◌, ℕ, ◌+◌, ◌<◌, Bool, true, false, cond, not, ◌||◌, ◌&&◌, inl, inr, List, [], ◌∷◌, map, Bor, refl, sym, ◌∙◌, ap, subst, arith}
+use Rattle.std.proofs.Common.{◌≡◌, ℕ, ◌+◌, ◌<◌, Bool, true, false, cond, not, ◌||◌, ◌&&◌, inl, inr, List, [], ◌∷◌, ◌++◌, map, Bor, refl, sym, ◌∙◌, ap, subst, arith}
 use Rattle.std.specs.Prelude.{Option, Some, None, Result, Ok, Err, IfOk, slice_index_or}
 use Rattle.std.specs.List.{list_any}
 use Rattle.std.specs.Str.{bytes_eq}
-use Rattle.std.specs.BTreeMap.{is_at}
-use Rattle.std.specs.Cmp.Lexicographic.{slice_cmp}
-use Rattle.std.specs.Ordering.{nat_cmp}
-use Rattle.std.proofs.lemmas.Bool.{true≢false, and_parts, or_cases, cases_lt}
-use Rattle.std.proofs.lemmas.Map.Text.{is_eq-slice_cmp}
+use Rattle.std.proofs.lemmas.Bool.{true≢false, and_parts, or_cases, cases_lt, cases_Bool}
+use Rattle.std.proofs.lemmas.List.{map-append}
+use Rattle.std.proofs.lemmas.List.Folds.{list_any-append}
 use Rattle.graph_terms.specs.declared.format.Format.{Format}
 use Rattle.graph_words.specs.Draft.{Place, EventName}
-use Rattle.basics.proofs.TestedLists.{same_bytes, bytes_same}
+use Rattle.basics.proofs.TestedLists.{same_bytes, bytes_same, bytes_differ, any_map}
 use Rattle.refused_words.specs.Places.{place_at}
 use Rattle.refused_words.specs.Refused.{is_event, is_column, same_list, StandsBefore}
 use Rattle.refused_words.specs.Repeats.{AreListed, AreSeen}
@@ -19,30 +17,44 @@ use Rattle.refused_words.specs.Repeats.{AreListed, AreSeen}
 abbrev pub key_words : List (Bor (List ℕ)) → List (List ℕ)
 key_words ks = map (λ (k : Bor (List ℕ)). k.now) ks
 
-abbrev pub at_word : List ℕ → Bor (List ℕ) → Bool
-at_word w = is_at (λ (k : Bor (List ℕ)). slice_cmp nat_cmp w k.now)
-
-pub listed_keys : (w : List ℕ) (ks : List (Bor (List ℕ))) → list_any (at_word w) ks ≡ list_any (bytes_eq w) (key_words ks)
-listed_keys w [] = refl
-listed_keys w (k ∷ ks) = ap (λ b. b || list_any (at_word w) ks) (is_eq-slice_cmp w k.now) ∙ ap (λ b. bytes_eq w k.now || b) (listed_keys w ks)
-
--- a key with these bytes
-abbrev pub as_key : Bor (List ℕ) → List ℕ → Bor (List ℕ)
-as_key k w = record k { now = w }
+pub listed_keys : (w : List ℕ) (ks : List (Bor (List ℕ))) → list_any (λ (k : Bor (List ℕ)). bytes_eq w k.now) ks ≡ list_any (bytes_eq w) (key_words ks)
+listed_keys w ks = sym (any_map (bytes_eq w) (λ (k : Bor (List ℕ)). k.now) ks)
 
 pub not_twice : (b c : Bool) → b ≡ not c → not b ≡ c
 not_twice b true e = ap not e
 not_twice b false e = ap not e
 
-pub cond_or : (b c d : Bool) → b ≡ c → cond b true d ≡ (c || d)
-cond_or true true d e = refl
-cond_or false false d e = refl
-cond_or true false d e = absurd (true≢false e)
-cond_or false true d e = absurd (true≢false (sym e))
-
 or_true : (b : Bool) → (b || true) ≡ true
 or_true true = refl
 or_true false = refl
+
+or_none : (b : Bool) → (b || false) ≡ b
+or_none true = refl
+or_none false = refl
+
+-- words and one more, where it is not among them
+put_among : (b : Bool) (word w : List ℕ) (ks : List (List ℕ)) → list_any (bytes_eq word) ks ≡ b → list_any (bytes_eq w) (cond b ks (ks ++ word ∷ [])) ≡ (bytes_eq word w || list_any (bytes_eq w) ks)
+put_among true word w ks e = elim (cases_Bool (bytes_eq word w)) [
+  | inl same ↦ subst (λ z. list_any (bytes_eq z) ks ≡ true) (same_bytes word w same) e ∙ sym (ap (λ c. c || list_any (bytes_eq w) ks) same)
+  | inr differ ↦ sym (ap (λ c. c || list_any (bytes_eq w) ks) differ)
+]
+put_among false word w ks e = list_any-append (bytes_eq w) ks (word ∷ []) ∙ elim (cases_Bool (bytes_eq word w)) [
+  | inl same ↦ (
+      let back : bytes_eq w word ≡ true = bytes_same w word (sym (same_bytes word w same)) in
+      ap (λ c. list_any (bytes_eq w) ks || (c || false)) back ∙ (or_true (list_any (bytes_eq w) ks) ∙ sym (ap (λ c. c || list_any (bytes_eq w) ks) same)))
+  | inr differ ↦ (
+      let back : bytes_eq w word ≡ false = bytes_differ word w differ in
+      ap (λ c. list_any (bytes_eq w) ks || (c || false)) back ∙ (or_none (list_any (bytes_eq w) ks) ∙ sym (ap (λ c. c || list_any (bytes_eq w) ks) differ)))
+]
+
+put_keys : (b : Bool) (word : Bor (List ℕ)) (ks : List (Bor (List ℕ))) → key_words (cond b ks (ks ++ word ∷ [])) ≡ cond b (key_words ks) (key_words ks ++ word.now ∷ [])
+put_keys true word ks = refl
+put_keys false word ks = map-append (λ (k : Bor (List ℕ)). k.now) ks (word ∷ [])
+
+pub put_key : (word : Bor (List ℕ)) (w : List ℕ) (ks : List (Bor (List ℕ))) → list_any (bytes_eq w) (key_words (cond (list_any (λ (k : Bor (List ℕ)). bytes_eq word.now k.now) ks) ks (ks ++ word ∷ []))) ≡ (bytes_eq word.now w || list_any (bytes_eq w) (key_words ks))
+put_key word w ks =
+    ap (list_any (bytes_eq w)) (put_keys (list_any (λ (k : Bor (List ℕ)). bytes_eq word.now k.now) ks) word ks)
+    ∙ put_among (list_any (λ (k : Bor (List ℕ)). bytes_eq word.now k.now) ks) word.now w (key_words ks) (sym (listed_keys word.now ks))
 
 abbrev at : List (List ℕ) → ℕ → List ℕ
 at ws j = slice_index_or ws j []

@@ -90,11 +90,15 @@ abbrev pub call_place : Option CallSize → ℕ → Option Place
 call_place o k = option_map_or (λ size. part_place size k) o None
 
 -- a word behind the sign: those of a merge are events
+-- the kind of the words behind the sign
+abbrev pub kind_in : Format → List (List ℕ) → Option Kind
+kind_in format ws = find (λ kind. is_of_form format ws (form_of kind)) KINDS
+
 abbrev pub verb_place : Format → List (List ℕ) → ℕ → Option Place
 verb_place format ws k =
     cond (is_merge ws) (cond (k == 0) None (Some EventName))
     (cond (is_call ws) (call_place (call_size format ws) k)
-    (option_map_or (λ kind. kind_place format kind ws k) (find (λ kind. is_of_form format ws (form_of kind)) KINDS) None))
+    (option_map_or (λ kind. kind_place format kind ws k) (kind_in format ws) None))
 
 abbrev pub operation_place : Format → List (List ℕ) → ℕ → Option Place
 operation_place format ws k = cond (k == 0) (Some NewName) (cond (k == 1) None (verb_place format (drop 2 ws) (k - 2)))

@@ -4,7 +4,7 @@ ghost use Rattle.basics.specs.Words.{contents};
 ghost use Rattle.std.specs.Prelude.{◌≡◌, ◌<◌, ◌≤◌, ◌+◌, length, drop, option_map, None, cond, IfSome};
 ghost use Rattle.graph_words.specs.Calls.{access_words};
 ghost use Rattle.graph_reader.specs.Reading.{is_operation};
-ghost use Rattle.refused_words.specs.Places.{place_value, space_place, columns_place, lock_place, barrier_place, decl_place, is_merge, is_call, call_size, access_place, part_place, line_call, behind_kind, kind_place, verb_place, operation_place, place_at};
+ghost use Rattle.refused_words.specs.Places.{place_value, space_place, columns_place, lock_place, barrier_place, decl_place, is_merge, is_call, call_size, access_place, part_place, line_call, behind_kind, kind_in, kind_place, verb_place, operation_place, place_at};
 
 use graph_terms::format::Format;
 use graph_terms::table::{Kind, Place};
@@ -46,20 +46,26 @@ pub(crate) struct CallSize {
 pub struct LineWords<'a, 'b> {
     format: Format,
     words: &'b [&'a [u8]],
-    /// Where the line is a call.
+    /// Whether the line is an operation, and a merge.
+    operation: bool,
+    merge: bool,
+    /// Where the line is a call, or of a kind.
     call: Option<CallSize>,
+    kind: Option<Kind>,
 }
 
 impl<'a, 'b> Model for LineWords<'a, 'b> {
     ghost use Rattle.std.specs.Prelude.{◌≡◌};
     ghost use Rattle.basics.specs.Words.{contents};
-    ghost use Rattle.refused_words.specs.Places.{WordsIn, line_call};
+    ghost use Rattle.std.specs.Prelude.{drop};
+    ghost use Rattle.graph_reader.specs.Reading.{is_operation};
+    ghost use Rattle.refused_words.specs.Places.{WordsIn, is_merge, line_call, kind_in};
 
     ghost Value = { WordsIn };
 
     ghost view = { λ a. record { format = a.format; words = contents a.words.now } };
 
-    ghost invariant = { λ a. a.call ≡ line_call (record { format = a.format; words = contents a.words.now }) };
+    ghost invariant = { λ a. (a.operation ≡ is_operation (contents a.words.now)) × (a.merge ≡ is_merge (drop 2 (contents a.words.now))) × (a.call ≡ line_call (record { format = a.format; words = contents a.words.now })) × (a.kind ≡ kind_in a.format (drop 2 (contents a.words.now))) };
 }
 
 impl<'a, 'b> LineWords<'a, 'b> {
@@ -71,10 +77,14 @@ impl<'a, 'b> LineWords<'a, 'b> {
     pub fn of(format: Format, words: &'b [&'a [u8]]) -> LineWords<'a, 'b>
         ensures { result ≡ record { format = format; words = contents words.now } }
     {
+        let rest = behind_sign(words);
         LineWords {
             format,
             words,
+            operation: is_operation(words),
+            merge: is_merge(rest),
             call: line_call(format, words),
+            kind: kind_of(format, rest),
         }
     }
 
@@ -94,8 +104,8 @@ impl<'a, 'b> LineWords<'a, 'b> {
         if k >= self.words.len() {
             return None;
         }
-        if is_operation(self.words) {
-            operation_place(self.format, self.call, self.words, k)
+        if self.operation {
+            operation_place(self.format, self.merge, self.call, self.kind, self.words, k)
         } else {
             decl_place(self.format, word(self.words, 0), k)
         }
@@ -193,11 +203,15 @@ fn barrier_place(k: usize) -> Option<WordPlace>
 /// In which place a word of an operation line stands.
 fn operation_place(
     format: Format,
+    merge: bool,
     call: Option<CallSize>,
+    kind: Option<Kind>,
     words: &[&[u8]],
     k: usize,
 ) -> Option<WordPlace>
     requires long { 2 ≤ length words.now }
+    requires kind { kind ≡ kind_in format (drop 2 (contents words.now)) }
+    requires merge { merge ≡ is_merge (drop 2 (contents words.now)) }
     requires call { call ≡ cond (is_call (drop 2 (contents words.now))) (call_size format (drop 2 (contents words.now))) None }
     ensures { option_map place_value result ≡ operation_place format (contents words.now) k }
 {
@@ -207,7 +221,7 @@ fn operation_place(
     if k == 1 {
         return None;
     }
-    verb_place(format, call, behind(words, 2), k - 2)
+    verb_place(format, merge, call, kind, behind(words, 2), k - 2)
 }
 
 /// Whether the words behind the sign are those of a merge.
@@ -227,20 +241,24 @@ pub(crate) fn is_call(words: &[&[u8]]) -> bool
 /// In which place a word behind the sign stands.
 fn verb_place(
     format: Format,
+    merge: bool,
     call: Option<CallSize>,
+    kind: Option<Kind>,
     words: &[&[u8]],
     k: usize,
 ) -> Option<WordPlace>
-    requires { call ≡ cond (is_call (contents words.now)) (call_size format (contents words.now)) None }
+    requires merge { merge ≡ is_merge (contents words.now) }
+    requires kind { kind ≡ kind_in format (contents words.now) }
+    requires call { call ≡ cond (is_call (contents words.now)) (call_size format (contents words.now)) None }
     ensures { option_map place_value result ≡ verb_place format (contents words.now) k }
 {
-    if is_merge(words) {
+    if merge {
         return if k == 0 { None } else { Some(WordPlace::Event) };
     }
     if is_call(words) {
         return part_place(call?, k);
     }
-    match kind_of(format, words) {
+    match kind {
         Some(kind) => kind_place(format, kind, words, k),
         None => None,
     }
@@ -269,6 +287,17 @@ fn place_behind(format: Format, kind: Kind, rest: &[&[u8]], k: usize) -> Option<
         return Some(WordPlace::Event);
     }
     None
+}
+
+/// The words behind the sign, none where there is no sign.
+fn behind_sign<'a, 'b>(words: &'b [&'a [u8]]) -> &'b [&'a [u8]]
+    ensures { contents result.now ≡ drop 2 (contents words.now) }
+{
+    if words.len() < 2 {
+        &[]
+    } else {
+        behind(words, 2)
+    }
 }
 
 /// The size of the call that a line of these words is.

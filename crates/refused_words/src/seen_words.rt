@@ -1,14 +1,14 @@
 //! Words that were seen.
 
 use index_spaces::NoMemory;
+use indexmap::IndexSet;
 use std::alloc::Global;
-use std::collections::BTreeSet;
 use std::marker::Model;
 
 /// Words, seen as a list of them.
 #[derive(Drop)]
 pub(crate) struct SeenWords<'a> {
-    words: BTreeSet<&'a [u8]>,
+    words: IndexSet<&'a [u8]>,
 }
 
 impl<'a> Model for SeenWords<'a> {
@@ -29,7 +29,7 @@ impl<'a> SeenWords<'a> {
         ensures { result ≡ [] }
     {
         SeenWords {
-            words: BTreeSet::new(alloc),
+            words: IndexSet::new(alloc),
         }
     }
 

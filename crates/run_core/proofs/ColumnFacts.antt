@@ -1,46 +1,55 @@
--- The columns of a line, moved out and put back one after another.
-use Rattle.std.proofs.Common.{◌≡◌, ℕ, ◌+◌, ◌<◌, ◌≤◌, Bool, true, false, cond, ◌||◌, ◌⊎◌, inl, inr, List, [], ◌∷◌, ◌++◌, length, take, refl, sym, ◌∙◌, ap, subst, arith, get_or, length-set}
-use Rattle.std.specs.Prelude.{◌≢◌, not, Option, Some, None, IsSome, is_some, slice_get, slice_index_or, slice_set}
+-- The columns of a line, taken and given back.
+use Rattle.std.proofs.Common.{◌≡◌, ℕ, ◌+◌, ◌<◌, ◌≤◌, Bool, true, false, cond, ◌||◌, not, ◌⊎◌, inl, inr, List, [], ◌∷◌, ◌++◌, length, refl, sym, ◌∙◌, ap, subst, length-set}
+use Rattle.std.specs.Prelude.{◌≢◌, filter, Contains, Option, Some, None, IsSome, slice_index_or, slice_set}
 use Rattle.std.specs.Option.{option_map_or}
-use Rattle.std.proofs.lemmas.Bool.{true≢false, false≢true, cases_eq, cases_lt, eq-eqb, ne_eqb, not-true, not-false}
-use Rattle.std.proofs.lemmas.Option.{none-some, same_Some, slice_get_within, slice_get-get_or, get_or_from_slice_get}
-use Rattle.std.proofs.lemmas.List.{take_more, take_all, get_or-set_same, get_or-set_other}
+use Rattle.std.proofs.lemmas.Bool.{true≢false, false≢true, cases_eq, cases_Bool, eq-eqb, ne_eqb}
+use Rattle.std.proofs.lemmas.Option.{none-some}
+use Rattle.std.proofs.lemmas.List.{get_or-set_same, get_or-set_other}
 use Rattle.std.proofs.lemmas.List.FromFn.{fill_by_all}
+use Rattle.basics.proofs.ListFacts.{contains_map, map_contains, contains_filter, filter_contains}
 use Rattle.index_spaces.specs.Column.{ColumnValue}
-use Rattle.index_spaces.specs.Held.{held_at}
+use Rattle.index_spaces.specs.Held.{HeldList, held_at, lending_at}
+use Rattle.graph_terms.specs.declared.outcome.End.{End}
+use Rattle.graph_terms.specs.declared.outcome.End.TheVariants.{Done, Faulted, Cancelled, Waiting}
+use Rattle.graph_terms.specs.declared.verb.Access.{Access}
 use Rattle.graph_terms.specs.Graph.{GraphValue}
-use Rattle.line_effects.specs.Moved.{moves, AreMoved, AreBack}
-use Rattle.line_effects.proofs.Public.{access_listed, access_moved, move_of, moves_few}
-use Rattle.run_state.specs.Run.{Place, Home, is_listed}
-use Rattle.run_state.specs.Sound.{AccessesColumn}
+use Rattle.graph_terms.specs.Access.{accesses, is_read}
+use Rattle.graph_terms.specs.Fits.{IsGraph}
+use Rattle.lent_columns.specs.Lendings.{Lending, SharedValue, column_in, lending_in, readers_of, number_of, one_fewer}
+use Rattle.lent_columns.specs.Moved.{AreTaken, AreGiven}
+use Rattle.run_state.specs.Run.{Home, is_listed}
+use Rattle.run_state.specs.Sound.{AccessesColumn, OnlyReads}
+use Rattle.run_state.specs.Sharing.{ChangesColumn, is_change, changed_list}
 use Rattle.run_state.specs.WholeLine.{column_list, all_had, all_home}
+use Rattle.run_state.proofs.Public.{listed_contains, contains_listed, listed_here, listed_there, accessed_listed}
 use Rattle.run_core.specs.Works.{cells_in}
-use Rattle.run_core.specs.Kept.{places_of, takers_with}
-use Rattle.run_state.proofs.Public.{listed_contains, contains_listed, listed_here, listed_there}
-use Rattle.run_core.specs.Steps.{IsAtHome, HasColumns, IsFirstOut}
-use Rattle.run_core.proofs.PlaceFacts.{places_taken, places_given, at_home, is_there}
+use Rattle.run_lists.specs.Columns.{takers_with}
+use Rattle.run_core.specs.Kept.{places_of}
+use Rattle.run_core.specs.Readers.{read_list, SharesTaken, lendings_left}
+use Rattle.run_core.proofs.PlaceFacts.{places_taken, places_given}
+use Rattle.run_core.proofs.ReaderFacts.{reads_of, listed_reads, unlisted_reads}
 
 -- THE COLUMNS OF A LINE
-listed_at : (g : GraphValue) (i c : ℕ) → AccessesColumn g i c → (k : ℕ) × (slice_get (column_list g i) k ≡ Some c)
-listed_at g i c a = let m = move_of g i a.0 a.1 in (m.0, m.1 ∙ ap (λ x. Some x) a.2)
+pub listed_access : (g : GraphValue) (i c : ℕ) → is_listed (column_list g i) c ≡ true → AccessesColumn g i c
+listed_access g i c h = map_contains (λ (a : Access). a.column) (accesses g i) c (listed_contains (column_list g i) c h)
 
-pub accessed_at : (g : GraphValue) (i k c : ℕ) → slice_get (column_list g i) k ≡ Some c → AccessesColumn g i c
-accessed_at g i k c at = let m = access_moved g i k c at in (m.0, access_listed g i k m.0 m.1, m.2)
+unlisted_access : (g : GraphValue) (i c : ℕ) → is_listed (column_list g i) c ≡ false → (a : Access) → Contains (accesses g i) a → a.column ≢ c
+unlisted_access g i c e a m same = true≢false (sym (accessed_listed g i c (a, m, same)) ∙ e)
 
--- one more of them, or no more
-next_taken : (g : GraphValue) (i k c : ℕ) → slice_get (column_list g i) k ≡ Some c → take (k + 1) (column_list g i) ≡ take k (column_list g i) ++ c ∷ []
-next_taken g i k c at = take_more (column_list g i) k c (slice_get_within (column_list g i) k c at) ∙ ap (λ x. take k (column_list g i) ++ x ∷ []) (get_or_from_slice_get (column_list g i) k c c at)
+listed_changed : (g : GraphValue) (i c : ℕ) → is_listed (changed_list g i) c ≡ true → ChangesColumn g i c
+listed_changed g i c h =
+    let m = map_contains (λ (a : Access). a.column) (filter is_change (accesses g i)) c (listed_contains (changed_list g i) c h) in
+    let r = filter_contains is_change (accesses g i) m.0 m.1 in
+    (m.0, r.0, m.2, not_read (is_read m.0.mode) r.1)
+  where
+    not_read : (b : Bool) → not b ≡ true → b ≡ false
+    not_read true e = absurd (false≢true e)
+    not_read false e = refl
 
-none_past : {X : Type 0} (xs : List X) (k : ℕ) (d : X) → slice_get xs k ≡ None → length xs ≤ k
-none_past xs k d none = elim (cases_lt k (length xs)) [ inl l ↦ absurd (none-some (get_or xs k d) (sym none ∙ slice_get-get_or xs k d l)) | inr m ↦ m ]
-
-no_more : (g : GraphValue) (i k : ℕ) → slice_get (column_list g i) k ≡ None → take (k + 1) (column_list g i) ≡ take k (column_list g i)
-no_more g i k none =
-    let past : length (column_list g i) ≤ k = none_past (column_list g i) k 0 none in
-    take_all (k + 1) (column_list g i) (let z : length (column_list g i) ≤ k + 1 = omega arith in z) ∙ sym (take_all k (column_list g i) past)
-
-all_taken : (g : GraphValue) (i k : ℕ) → 3 ≤ k → take k (column_list g i) ≡ column_list g i
-all_taken g i k h = let few = moves_few g i in take_all k (column_list g i) (let z : length (column_list g i) ≤ k = omega (arith, few, h) in z)
+changed_listed : (g : GraphValue) (i c : ℕ) → ChangesColumn g i c → is_listed (changed_list g i) c ≡ true
+changed_listed g i c a =
+    contains_listed (changed_list g i) c (subst (Contains (changed_list g i)) a.2 (contains_map (λ (x : Access). x.column) (filter is_change (accesses g i)) a.0
+    (contains_filter is_change (accesses g i) a.0 a.1 (ap not a.3))))
 
 -- the homes once another thing stands in the place of each of these columns
 abbrev homes_with : List (Option ColumnValue) → (ℕ → Option ColumnValue) → List ℕ → List (Option ColumnValue)
@@ -84,7 +93,7 @@ places_out : (homes : List (Option ColumnValue)) (takers : List ℕ) (i : ℕ) (
 places_out homes takers i [] e = refl
 places_out homes takers i (c ∷ cs) e = places_out (slice_set homes c None) (slice_set takers c i) i cs (length-set homes c None ∙ (e ∙ sym (length-set takers c i))) ∙ ap (λ ps. all_had ps i cs) (places_taken homes takers c i e)
 
-places_in : (homes : List (Option ColumnValue)) (takers : List ℕ) (held : List (ℕ × ColumnValue)) (cs : List ℕ) → length homes ≡ length takers → ((c : ℕ) → is_listed cs c ≡ true → IsSome (held_at held c)) → places_of (homes_with homes (held_at held) cs) takers ≡ all_home (places_of homes takers) (cells_in held) cs
+places_in : (homes : List (Option ColumnValue)) (takers : List ℕ) (held : HeldList) (cs : List ℕ) → length homes ≡ length takers → ((c : ℕ) → is_listed cs c ≡ true → IsSome (held_at held c)) → places_of (homes_with homes (held_at held) cs) takers ≡ all_home (places_of homes takers) (cells_in held) cs
 places_in homes takers held [] e some = refl
 places_in homes takers held (c ∷ cs) e some =
     places_in (slice_set homes c (held_at held c)) takers held cs (length-set homes c (held_at held c) ∙ e) (λ d h. some d (listed_there c d cs h))
@@ -94,101 +103,122 @@ places_in homes takers held (c ∷ cs) e some =
     by_held None s = absurd (false≢true s)
     by_held (Some x) s = places_given homes takers c x e
 
--- the columns that a line moves are those that it accesses
-move_listed : (g : GraphValue) (i c : ℕ) → is_listed (column_list g i) c ≡ true → (k : ℕ) × (slice_get (moves g i) k ≡ Some c)
-move_listed g i c h = let m = listed_contains (column_list g i) c h in (m.0, slice_get-get_or (column_list g i) m.0 c m.1 ∙ ap (λ x. Some x) m.2)
+-- TAKEN
+module _ (g : GraphValue) (f : IsGraph g) (i : ℕ) (old new : SharedValue) (held : HeldList) (m : AreTaken g i old new held) where
+  -- a column that the line may not change stays
+  stays_by : (c : ℕ) → is_listed (changed_list g i) c ≡ false → (b : Bool) → is_listed (column_list g i) c ≡ b → column_in new c ≡ column_in old c
+  stays_by c e true accessed =
+      let a = listed_access g i c accessed in
+      elim (cases_Bool (is_read a.0.mode)) [
+        | inl reads ↦ subst (λ k. column_in new k ≡ column_in old k) a.2 ((m.taken a.0 a.1).stays reads)
+        | inr changes ↦ absurd (true≢false (sym (changed_listed g i c (a.0, a.1, a.2, changes)) ∙ e))
+      ]
+  stays_by c e false other = (m.others c (unlisted_access g i c other)).0.column
 
-listed_move : (g : GraphValue) (i k c : ℕ) → slice_get (moves g i) k ≡ Some c → is_listed (column_list g i) c ≡ true
-listed_move g i k c at = contains_listed (column_list g i) c (k, slice_get_within (column_list g i) k c at, get_or_from_slice_get (column_list g i) k c c at)
+  stays : (c : ℕ) → is_listed (changed_list g i) c ≡ false → column_in new c ≡ column_in old c
+  stays c e = stays_by c e (is_listed (column_list g i) c) refl
 
-none_moved : (g : GraphValue) (i c : ℕ) → is_listed (column_list g i) c ≡ false → (k : ℕ) → slice_get (moves g i) k ≢ Some c
-none_moved g i c h k at = true≢false (sym (listed_move g i k c at) ∙ h)
+  out_there : (c : ℕ) → is_listed (changed_list g i) c ≡ true → column_in new c ≡ None
+  out_there c h = let a = listed_changed g i c h in subst (λ k. column_in new k ≡ None) a.2 ((m.taken a.0 a.1).out a.3)
 
--- MOVED OUT
-module _ (g : GraphValue) (i : ℕ) (old new : List (Option ColumnValue)) (held : List (ℕ × ColumnValue)) (m : AreMoved g i old new held) where
-  pub taken_places : (takers next : List ℕ) → length old ≡ length takers → next ≡ takers_with takers i (column_list g i) → places_of new next ≡ all_had (places_of old takers) i (column_list g i)
+  pub taken_places : (takers next : List ℕ) → length old.columns ≡ length takers → next ≡ takers_with takers i (changed_list g i) → places_of new.columns next ≡ all_had (places_of old.columns takers) i (changed_list g i)
   taken_places takers next e w =
-      ap (places_of new) w ∙ (ap (λ xs. places_of xs (takers_with takers i (column_list g i))) (homes_agree old new (λ c. None) (column_list g i) m.each
-      (λ c h. (let at = move_listed g i c h in m.out at.0 c at.1)) (λ c h. m.others c (none_moved g i c h)))
-      ∙ places_out old takers i (column_list g i) e)
+      ap (places_of new.columns) w ∙ (ap (λ xs. places_of xs (takers_with takers i (changed_list g i))) (homes_agree old.columns new.columns (λ c. None) (changed_list g i) m.each_column out_there stays)
+      ∙ places_out old.columns takers i (changed_list g i) e)
 
-  pub taken_kept : (c : ℕ) (x : ColumnValue) → slice_index_or new c None ≡ Some x → slice_index_or old c None ≡ Some x
-  taken_kept c x h = by_test (is_listed (column_list g i) c) refl
-    where
-      by_test : (b : Bool) → is_listed (column_list g i) c ≡ b → slice_index_or old c None ≡ Some x
-      by_test true e = (let at = move_listed g i c e in absurd (none-some x (sym (m.out at.0 c at.1) ∙ h)))
-      by_test false e = sym (m.others c (none_moved g i c e)) ∙ h
+  pub taken_kept : (c : ℕ) (x : ColumnValue) → column_in new c ≡ Some x → column_in old c ≡ Some x
+  taken_kept c x h = elim (cases_Bool (is_listed (changed_list g i) c)) [
+    | inl changed ↦ absurd (none-some x (sym (out_there c changed) ∙ h))
+    | inr other ↦ sym (stays c other) ∙ h
+  ]
 
-  pub taken_has : (c : ℕ) → AccessesColumn g i c → held_at held c ≡ slice_index_or old c None
-  taken_has c a = let at = listed_at g i c a in m.has at.0 c at.1
+  pub taken_has : (c : ℕ) → AccessesColumn g i c → held_at held c ≡ column_in old c
+  taken_has c a = subst (λ k. held_at held k ≡ column_in old k) a.2 (m.taken a.0 a.1).has
 
   pub taken_only : (c : ℕ) (x : ColumnValue) → held_at held c ≡ Some x → AccessesColumn g i c
-  taken_only c x h = let at = m.only c x h in accessed_at g i at.0 c at.1
+  taken_only c x h = elim (cases_Bool (is_listed (column_list g i) c)) [
+    | inl accessed ↦ listed_access g i c accessed
+    | inr other ↦ absurd (none-some x (sym (m.others c (unlisted_access g i c other)).1 ∙ h))
+  ]
 
--- PUT BACK
-pub is_empty : (g : GraphValue) (i : ℕ) (old : List (Option ColumnValue)) → ((c : ℕ) → AccessesColumn g i c → slice_get old c ≡ Some None) → (k c : ℕ) → slice_get (moves g i) k ≡ Some c → slice_index_or old c None ≡ None
-is_empty g i old out k c at = get_or_from_slice_get old c None None (out c (accessed_at g i k c at))
+  pub taken_own : (c : ℕ) → ChangesColumn g i c → lending_at held c ≡ None
+  taken_own c a = subst (λ k. lending_at held k ≡ None) a.2 ((m.taken a.0 a.1).own a.3)
 
-module _ (g : GraphValue) (i : ℕ) (held : List (ℕ × ColumnValue)) (old new : List (Option ColumnValue)) (b : AreBack g i held old new) where
-  pub given_places : (takers : List ℕ) → length old ≡ length takers → ((c : ℕ) → AccessesColumn g i c → IsSome (held_at held c)) → places_of new takers ≡ all_home (places_of old takers) (cells_in held) (column_list g i)
-  given_places takers e has =
-      ap (λ xs. places_of xs takers) (homes_agree old new (held_at held) (column_list g i) b.each (λ c h. (let at = move_listed g i c h in b.home at.0 c at.1)) (λ c h. b.others c (none_moved g i c h)))
-      ∙ places_in old takers held (column_list g i) e (λ c h. (let at = move_listed g i c h in has c (accessed_at g i at.0 c at.1)))
+  pub taken_shares : (c : ℕ) → OnlyReads g i c → lending_at held c ≡ number_of (lending_in new.lendings c)
+  taken_shares c only =
+      let a = only.accessed in
+      let s = (m.taken a.0 a.1).share (ap is_read (only.reads a.0 a.1 a.2)) in
+      subst (λ k. lending_at held k ≡ number_of (lending_in new.lendings k)) a.2 (s.3 ∙ sym (ap number_of s.1))
 
-  pub given_kept : (c : ℕ) (x : ColumnValue) → slice_index_or new c None ≡ Some x → (slice_index_or old c None ≡ Some x) ⊎ (held_at held c ≡ Some x)
-  given_kept c x h = by_test (is_listed (column_list g i) c) refl
-    where
-      by_test : (t : Bool) → is_listed (column_list g i) c ≡ t → (slice_index_or old c None ≡ Some x) ⊎ (held_at held c ≡ Some x)
-      by_test true e = (let at = move_listed g i c e in inr (sym (b.home at.0 c at.1) ∙ h))
-      by_test false e = inl (sym (b.others c (none_moved g i c e)) ∙ h)
+  lending_stays : (c : ℕ) → (OnlyReads g i c → ⊥) → (b : Bool) → is_listed (column_list g i) c ≡ b → lending_in new.lendings c ≡ lending_in old.lendings c
+  lending_stays c not_read true accessed =
+      let a = listed_access g i c accessed in
+      elim (cases_Bool (is_read a.0.mode)) [
+        | inl reads ↦ absurd (not_read (subst (OnlyReads g i) a.2 (reads_of g f i a.0 a.1 reads)))
+        | inr changes ↦ subst (λ k. lending_in new.lendings k ≡ lending_in old.lendings k) a.2 ((m.taken a.0 a.1).same changes)
+      ]
+  lending_stays c not_read false other = (m.others c (unlisted_access g i c other)).0.lending
 
--- THE TAKERS, the first k of them
-pub takers_start : (takers : List ℕ) (i : ℕ) (cs : List ℕ) → takers ≡ takers_with takers i (take 0 cs)
-takers_start takers i [] = refl
-takers_start takers i (c ∷ cs) = refl
+  pub taken_lendings : SharesTaken g i old.lendings new.lendings
+  taken_lendings = record {
+    each = m.each_lending;
+    more = λ c only. (
+        let a = only.accessed in
+        let s = (m.taken a.0 a.1).share (ap is_read (only.reads a.0 a.1 a.2)) in
+        (s.0, ap (lending_in new.lendings) (sym a.2) ∙ s.1, record { readers = s.2.readers ∙ ap (λ k. readers_of (lending_in old.lendings k) + 1) a.2; same = λ l at. s.2.same l (ap (lending_in old.lendings) a.2 ∙ at) }));
+    others = λ c not_read. lending_stays c not_read (is_listed (column_list g i) c) refl;
+  }
 
-takers_more : (takers : List ℕ) (i : ℕ) (cs : List ℕ) (c : ℕ) → takers_with takers i (cs ++ c ∷ []) ≡ slice_set (takers_with takers i cs) c i
-takers_more takers i [] c = refl
-takers_more takers i (d ∷ cs) c = takers_more (slice_set takers d i) i cs c
+-- GIVEN BACK
+module _ (g : GraphValue) (f : IsGraph g) (i : ℕ) (held : HeldList) (old new : SharedValue) (b : AreGiven g i held old new) where
+  module _ (same : (c : ℕ) → OnlyReads g i c → held_at held c ≡ column_in old c) where
+    home_there : (c : ℕ) → is_listed (column_list g i) c ≡ true → column_in new c ≡ held_at held c
+    home_there c h =
+        let a = listed_access g i c h in
+        elim (cases_Bool (is_read a.0.mode)) [
+          | inl reads ↦ (
+              let stays : column_in new c ≡ column_in old c = subst (λ k. column_in new k ≡ column_in old k) a.2 ((b.given a.0 a.1).stays reads) in
+              stays ∙ sym (same c (subst (OnlyReads g i) a.2 (reads_of g f i a.0 a.1 reads))))
+          | inr changes ↦ subst (λ k. column_in new k ≡ held_at held k) a.2 ((b.given a.0 a.1).home changes)
+        ]
 
-pub taker_one : (g : GraphValue) (i k c : ℕ) (old takers after : List ℕ) → takers ≡ takers_with old i (take k (column_list g i)) → slice_get (moves g i) k ≡ Some c → after ≡ slice_set takers c i → after ≡ takers_with old i (take (k + 1) (column_list g i))
-taker_one g i k c old takers after so_far at w = w ∙ (ap (λ ts. slice_set ts c i) so_far ∙ (sym (takers_more old i (take k (column_list g i)) c) ∙ ap (takers_with old i) (sym (next_taken g i k c at))))
+    pub given_places : (takers : List ℕ) → length old.columns ≡ length takers → ((c : ℕ) → AccessesColumn g i c → IsSome (held_at held c)) → places_of new.columns takers ≡ all_home (places_of old.columns takers) (cells_in held) (column_list g i)
+    given_places takers e has =
+        ap (λ xs. places_of xs takers) (homes_agree old.columns new.columns (held_at held) (column_list g i) b.each_column home_there (λ c h. (b.others c (unlisted_access g i c h)).column))
+        ∙ places_in old.columns takers held (column_list g i) e (λ c h. has c (listed_access g i c h))
 
-pub taker_skip : (g : GraphValue) (i k : ℕ) (old takers : List ℕ) → takers ≡ takers_with old i (take k (column_list g i)) → slice_get (moves g i) k ≡ None → takers ≡ takers_with old i (take (k + 1) (column_list g i))
-taker_skip g i k old takers so_far none = so_far ∙ ap (takers_with old i) (sym (no_more g i k none))
+    pub given_kept : (c : ℕ) (x : ColumnValue) → column_in new c ≡ Some x → (column_in old c ≡ Some x) ⊎ (held_at held c ≡ Some x)
+    given_kept c x h = elim (cases_Bool (is_listed (column_list g i) c)) [
+      | inl accessed ↦ inr (sym (home_there c accessed) ∙ h)
+      | inr other ↦ inl (sym (b.others c (unlisted_access g i c other)).column ∙ h)
+    ]
 
-pub takers_all : (g : GraphValue) (i k : ℕ) (old takers : List ℕ) → takers ≡ takers_with old i (take k (column_list g i)) → 3 ≤ k → takers ≡ takers_with old i (column_list g i)
-takers_all g i k old takers so_far far = so_far ∙ ap (takers_with old i) (all_taken g i k far)
+  lending_kept : (c : ℕ) → is_listed (read_list g i) c ≡ false → (t : Bool) → is_listed (column_list g i) c ≡ t → lending_in new.lendings c ≡ lending_in old.lendings c
+  lending_kept c e true accessed =
+      let a = listed_access g i c accessed in
+      elim (cases_Bool (is_read a.0.mode)) [
+        | inl reads ↦ absurd (unlisted_reads g i c e (subst (OnlyReads g i) a.2 (reads_of g f i a.0 a.1 reads)))
+        | inr changes ↦ subst (λ k. lending_in new.lendings k ≡ lending_in old.lendings k) a.2 ((b.given a.0 a.1).same changes)
+      ]
+  lending_kept c e false other = (b.others c (unlisted_access g i c other)).lending
 
--- AT HOME, the first k of them
-abbrev pub HomeSoFar : GraphValue → ℕ → ℕ → List Place → Type 0
-HomeSoFar g i k places = (j c : ℕ) → j < k → slice_get (column_list g i) j ≡ Some c → IsAtHome places c
+  lending_now : (c : ℕ) (t : Bool) → is_listed (read_list g i) c ≡ t → lending_in new.lendings c ≡ cond t (one_fewer (lending_in old.lendings c)) (lending_in old.lendings c)
+  lending_now c true e =
+      let only = listed_reads g f i c e in
+      let a = only.accessed in
+      subst (λ k. lending_in new.lendings k ≡ one_fewer (lending_in old.lendings k)) a.2 ((b.given a.0 a.1).left (ap is_read (only.reads a.0 a.1 a.2)))
+  lending_now c false e = lending_kept c e (is_listed (column_list g i) c) refl
 
-pub home_one : (g : GraphValue) (i k : ℕ) (homes : List (Option ColumnValue)) (takers : List ℕ) (c : ℕ) → length homes ≡ length takers → c < length homes → HomeSoFar g i k (places_of homes takers) → slice_get (moves g i) k ≡ Some c → not (is_some (slice_index_or homes c None)) ≡ false → HomeSoFar g i (k + 1) (places_of homes takers)
-home_one g i k homes takers c e below s at there j d h listed = elim (cases_lt j k) [
-  | inl before ↦ s j d before listed
-  | inr after ↦ (
-      let same : j ≡ k = omega arith in
-      subst (IsAtHome (places_of homes takers)) (same_Some c d (sym at ∙ (ap (slice_get (column_list g i)) (sym same) ∙ listed))) (at_home homes takers c e below (not-false _ there)))
-]
+  all_left : new.lendings ≡ lendings_left g i Done old.lendings
+  all_left = fill_by_all (λ c. cond (is_listed (read_list g i) c) (one_fewer (lending_in old.lendings c)) (lending_in old.lendings c)) new.lendings (length old.lendings) None b.each_lending
+      (λ c near. lending_now c (is_listed (read_list g i) c) refl)
 
-pub home_skip : (g : GraphValue) (i k : ℕ) (places : List Place) → HomeSoFar g i k places → slice_get (moves g i) k ≡ None → HomeSoFar g i (k + 1) places
-home_skip g i k places s none j c h listed = elim (cases_lt j k) [
-  | inl before ↦ s j c before listed
-  | inr after ↦ (
-      let same : j ≡ k = omega arith in
-      absurd (none-some c (sym none ∙ (ap (slice_get (column_list g i)) (sym same) ∙ listed))))
-]
+  pub given_lendings : (x : End) → x ≢ Cancelled → new.lendings ≡ lendings_left g i x old.lendings
+  given_lendings Cancelled runs = absurd (runs refl)
+  given_lendings Done runs = all_left
+  given_lendings Faulted runs = all_left
+  given_lendings Waiting runs = all_left
 
-pub home_all : (g : GraphValue) (i k : ℕ) (places : List Place) → HomeSoFar g i k places → 3 ≤ k → HasColumns g places i
-home_all g i k places s h c a =
-    let at = listed_at g i c a in
-    s at.0 c (let within = slice_get_within (column_list g i) at.0 c at.1 in let few = moves_few g i in let w : at.0 < length (column_list g i) = within in let f : length (column_list g i) ≤ 3 = few in omega (arith, w, f, h)) at.1
-
-pub first_out : (g : GraphValue) (i k : ℕ) (homes : List (Option ColumnValue)) (takers : List ℕ) (c : ℕ) → length homes ≡ length takers → c < length homes → HomeSoFar g i k (places_of homes takers) → slice_get (moves g i) k ≡ Some c → not (is_some (slice_index_or homes c None)) ≡ true → IsFirstOut g (places_of homes takers) i c
-first_out g i k homes takers c e below s at gone = record {
-  place = k;
-  column = at;
-  is_out = λ home. true≢false (sym (is_there homes takers c e below home) ∙ not-true _ gone);
-  before = λ j d h listed. s j d h listed;
-}
+-- where the line is cancelled none is given back
+pub none_left : (g : GraphValue) (i : ℕ) (lendings : List (Option Lending)) → lendings ≡ lendings_left g i Cancelled lendings
+none_left g i lendings = fill_by_all (λ c. lending_in lendings c) lendings (length lendings) None refl (λ c near. refl)

@@ -11,7 +11,7 @@ use Rattle.event_table.specs.declared.handle.Handle.{Handle}
 use Rattle.event_table.specs.declared.handle.Fate.{Fate}
 use Rattle.event_table.specs.declared.handle.Answer.TheVariants.{Pending}
 use Rattle.basics.specs.Sums.{total}
-use Rattle.event_table.specs.EventMap.{EventMap, SlotLife, unused, life_at, answer, answer_in, answer_of, fresh, with_life, created_at, placed_on, ended_with, next_handle, MayServe, IsPlaced, IsEventMap, Gives}
+use Rattle.event_table.specs.EventMap.{EventMap, SlotLife, unused, life_at, answer, answer_in, answer_of, fresh, with_life, created_at, placed_on, ended_with, next_handle, MayServe, IsFree, IsPlaced, IsEventMap, Gives}
 use Rattle.basics.proofs.Sums.{total-put}
 use Rattle.event_table.proofs.MapAnswers.{in_idle, life_here, life_there}
 use Rattle.event_table.proofs.Public.{answer_apart, is_now, split_handle, handle_eq}
@@ -19,13 +19,19 @@ use Rattle.event_table.specs.Maps.{IsNow}
 use Rattle.run_state.specs.Run.{LineStage, Unissued, Issued, Ended, stage_at, stage_issued, stage_ended, end_so_far, issued, ended}
 use Rattle.run_state.specs.Start.{start}
 use Rattle.basics.proofs.ListFacts.{contains_none, contains_cases, same_at}
+use Rattle.run_lists.proofs.Public.{replicate_at}
 use Rattle.run_parts.specs.LineEvents.{answer_for, created_in, pending_in, count_left, WaitsFor, AreEvents, last_gen_for}
 
 -- BEFORE ANY LINE IS ISSUED
-pub replicate_at : {X : Type 0} (n i : ℕ) (x : X) → slice_index_or (replicate n x) i x ≡ x
-replicate_at zero i x = refl
-replicate_at (suc n) zero x = refl
-replicate_at (suc n) (suc i) x = replicate_at n i x
+fresh_free : (slots waiters last k : ℕ) → k < waiters → IsFree (fresh slots waiters last) k
+fresh_free slots waiters last k near = record {
+  number = near;
+  unplaced = λ i c. contains_none k (subst (λ (l : SlotLife). Contains l.waiting k) (replicate_at slots i unused) c);
+  uncaught = λ h c. contains_none {X = ℕ × Handle} (k, h) c;
+}
+
+pub free_first : (slots waiters last : ℕ) (m : EventMap) → m ≡ fresh slots waiters last → (k : ℕ) → k < m.waiters → IsFree m k
+free_first slots waiters last m is k near = subst (λ (t : EventMap). IsFree t k) (sym is) (fresh_free slots waiters last k (subst (λ (t : EventMap). k < t.waiters) is near))
 
 total_none : {X : Type 0} (f : X → ℕ) (x : X) → f x ≡ 0 → (n : ℕ) → total f (replicate n x) ≡ 0
 total_none f x e zero = refl

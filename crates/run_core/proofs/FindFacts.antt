@@ -6,9 +6,11 @@ use Rattle.graph_terms.specs.Graph.{GraphValue, never_comes}
 use Rattle.run_state.specs.Run.{Issued, stage_at}
 use Rattle.run_state.specs.Quiet.{kept_cancels}
 use Rattle.run_core.specs.Core.{CoreValue, IsCore}
-use Rattle.run_core.specs.Steps.{HasSources, IsDue, HasLock, HasColumns, IsHeldBy}
+use Rattle.run_lists.specs.Sources.{HasSources}
+use Rattle.run_lists.specs.Holders.{HasLock}
+use Rattle.run_core.specs.Steps.{IsDue, HasColumns, IsHeldBy}
 use Rattle.run_core.specs.Findings.{IsFound}
-use Rattle.run_core.specs.Kept.{shown_stage}
+use Rattle.run_lists.specs.Stages.{shown_stage}
 use Rattle.run_parts.specs.declared.answers.Thing.{Thing}
 use Rattle.run_core.specs.declared.run.attempt.Finding.TheVariants as finding
 use Rattle.run_parts.specs.declared.progress.Progress.{Progress}
@@ -54,9 +56,9 @@ module _ (before now : CoreValue) (same : before ≡ now) (i : ℕ) (h : GraphVa
     pub found_busy : false ≡ kept_cancels h before.run.stages i → (thing : Thing) → IsHeldBy h before.run i thing → IsFound now i (finding.Busy thing)
     found_busy e thing held = subst (λ (c : CoreValue). IsFound c i (finding.Busy thing)) same (due_before, runs_before e, subst (λ g. IsHeldBy g before.run i thing) graph held)
 
-    pub found_free : false ≡ kept_cancels h before.run.stages i → HasLock h before.run.holders i → HasColumns h before.run.places i → IsFound now i finding.Free
+    pub found_free : false ≡ kept_cancels h before.run.stages i → HasLock h before.run.holders i → HasColumns h before.run i → IsFound now i finding.Free
     found_free e lock columns = subst (λ (c : CoreValue). IsFound c i finding.Free) same
-        (due_before, runs_before e, subst (λ g. HasLock g before.run.holders i) graph lock, subst (λ g. HasColumns g before.run.places i) graph columns)
+        (due_before, runs_before e, subst (λ g. HasLock g before.run.holders i) graph lock, subst (λ g. HasColumns g before.run i) graph columns)
 
 pub issued_here : (stages : List Progress) (i : ℕ) (p : Progress) → i < length stages → p ≡ slice_index_or stages i p → p ≡ progress.Issued → stage_at (map shown_stage stages) i ≡ Issued
 issued_here stages i p near e is = is_issued stages i p near (sym e ∙ is)

@@ -1,6 +1,6 @@
 -- What a run on one thread keeps.
 use Rattle.std.proofs.Common.{◌≡◌, ℕ, ◌+◌, ◌<◌, ◌≤◌, Bool, true, false, not, inl, inr, List, length, length-set, refl, sym, ◌∙◌, ap, subst, arith}
-use Rattle.std.specs.Prelude.{◌≢◌, Some, None, is_some, slice_get, slice_set, [], ◌∷◌}
+use Rattle.std.specs.Prelude.{◌≢◌, Option, Some, None, is_some, slice_get, slice_set, [], ◌∷◌}
 use Rattle.std.proofs.lemmas.Bool.{true≢false, cases_eq, cases_Bool}
 use Rattle.std.proofs.lemmas.List.{get_or-set_same, get_or-set_other, set-set}
 use Rattle.graph_terms.specs.declared.outcome.End.{End}
@@ -14,10 +14,12 @@ use Rattle.event_table.specs.EventMap.{SlotLife, IsFull}
 use Rattle.run_state.specs.Run.{LineStage, Unissued, Issued, Out, Ending, Ended, Run, stage_at, time_at, stage_issued, stage_ended, stage_out, issued, out, ended, timed}
 use Rattle.run_state.specs.Quiet.{kept_cancels}
 use Rattle.run_state.specs.Moves.{claim}
-use Rattle.run_state.specs.WholeLine.{column_list, take_whole}
+use Rattle.run_state.specs.WholeLine.{column_list}
+use Rattle.run_state.specs.Sharing.{take_sharing}
 use Rattle.run_core.specs.Core.{CoreValue, IsCore, kept_faults}
+use Rattle.lent_columns.specs.Lendings.{Lending}
 use Rattle.run_core.specs.Works.{WorkValue, FinishedValue, IsWork}
-use Rattle.run_core.specs.Steps.{with_issue, IsLeft, IsHeldBy, StandsBy, with_run, Takes, Attempts, with_end, handle_at, Wakes, Issues}
+use Rattle.run_core.specs.Steps.{with_issue, IsLeft, IsHeldBy, StandsBy, with_run, with_lendings, Takes, Attempts, with_end, handle_at, Wakes, Issues}
 use Rattle.run_core.specs.Finishing.{NothingOut, left_to_do, Stays, GoesOn, IsStill, IsFreeSoFar, CanBeTaken, IsQuiet}
 use Rattle.run_core.specs.declared.answers.Attempt.{Attempt}
 use Rattle.run_core.specs.declared.answers.Attempt.TheVariants as attempts
@@ -187,12 +189,12 @@ pub record GoesOut (old mid : CoreValue) (i : ℕ) : Type 0 where
 
 pub goes_out : (old mid : CoreValue) (w : WorkValue) → Takes old mid w → GoesOut old mid w.line
 goes_out old mid w takes = elim (cases_Bool (kept_cancels old.graph old.run.stages w.line)) [
-  | inl cancelled ↦ by_run (claim old.run w.line) (takes.claimed cancelled) refl refl
-  | inr runs ↦ by_run (take_whole old.graph old.run w.line) (takes.taken runs).2 refl refl
+  | inl cancelled ↦ by_run (claim old.run w.line) old.lendings (takes.claimed cancelled) refl refl
+  | inr runs ↦ (let t = takes.taken runs in by_run (take_sharing old.graph old.run w.line) t.2 t.4 refl refl)
 ]
   where
-    by_run : (run : Run) → mid ≡ with_run old run → run.stages ≡ slice_set old.run.stages w.line Out → run.times ≡ old.run.times → GoesOut old mid w.line
-    by_run run is shape timed = record {
+    by_run : (run : Run) (lendings : List (Option Lending)) → mid ≡ with_lendings (with_run old run) lendings → run.stages ≡ slice_set old.run.stages w.line Out → run.times ≡ old.run.times → GoesOut old mid w.line
+    by_run run lendings is shape timed = record {
       graph = ap (λ (c : CoreValue). c.graph) is;
       hosted = ap (λ (c : CoreValue). c.hosted) is;
       stages = ap (λ (c : CoreValue). c.run.stages) is ∙ shape;
@@ -238,7 +240,7 @@ module _ (old mid new : CoreValue) (w : WorkValue) (f : FinishedValue) (core : I
   untimed : (t : ℕ) → time_at old.run.times i ≡ Some t → ⊥
   untimed t e =
       let out : stage_at mid.run.stages w.line ≡ Out = work_out mid w takes.work in
-      let none : timed mid.run.times w.line ≡ false = (kept_core mid core).at_rest.out_untimed w.line (ap stage_out out) in
+      let none : timed mid.run.times w.line ≡ false = (kept_core mid core).at_rest.lines.out_untimed w.line (ap stage_out out) in
       true≢false (sym (ap is_some (ap (λ ts. time_at ts w.line) gone.times ∙ (ap (time_at old.run.times) this ∙ e))) ∙ none)
 
   times_after : (j t : ℕ) → time_at old.run.times j ≡ Some t → time_at new.run.times j ≡ Some t
@@ -344,7 +346,7 @@ all_quiet : (c : CoreValue) → IsCore c → NothingOut c → ((i : ℕ) → Can
 all_quiet c core nothing none all = record {
   first_issued = λ i l. ((kept_core c core).events.each_issued i).1 (omega (arith, l, all));
   none_out = nothing;
-  none_ending = (kept_core c core).at_rest.none_ending;
+  none_ending = (kept_core c core).at_rest.lines.none_ending;
   none_taken = none;
 }
 

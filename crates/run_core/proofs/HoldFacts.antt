@@ -13,7 +13,7 @@ use Rattle.run_state.specs.WholeLine.{lock_of, holders_with}
 use Rattle.run_state.proofs.Locks.{with_holder, holder_more, holder_new, holder_cases}
 use Rattle.run_state.proofs.Public.{acquires_lock}
 use Rattle.run_core.specs.Resumed.{HoldsNow, AreBeside, FoundBelow}
-use Rattle.run_core.specs.Steps.{HasLock}
+use Rattle.run_lists.specs.Holders.{HasLock}
 use Rattle.run_parts.specs.declared.states.LineState.{LineState}
 
 -- before the first release none is found, and each acquire has a release, so at last all are

@@ -1,35 +1,24 @@
--- Lists that are made line by line.
+-- What a quiet run answers, made line by line.
 use Rattle.std.proofs.Common.{◌≡◌, ℕ, ◌+◌, ◌<◌, inl, inr, List, [], ◌∷◌, ◌++◌, length, map, sym, ◌∙◌, ap, subst, arith, get_or}
 use Rattle.std.specs.Prelude.{Some, slice_get}
 use Rattle.std.proofs.lemmas.Bool.{cases_lt}
 use Rattle.std.proofs.lemmas.Option.{same_Some, slice_get-get_or, slice_get_within}
 use Rattle.std.proofs.Math.Seq.{get_or-append_seam}
-use Rattle.std.proofs.lemmas.List.FromFn.{map-range_with_len_more}
-use Rattle.std.proofs.lemmas.List.{length_push}
-use Rattle.basics.specs.Lists.{numbers_below}
+use Rattle.std.proofs.lemmas.List.{length_push, get_or-map}
 use Rattle.graph_terms.specs.declared.outcome.Answer.{Answer}
 use Rattle.event_table.specs.declared.handle.Handle.{Handle}
 use Rattle.event_table.specs.declared.handle.Answer.{Answer as EventAnswer}
 use Rattle.event_table.specs.EventMap.{EventMap, answer}
 use Rattle.basics.proofs.ListFacts.{got_in}
 use Rattle.graph_terms.specs.Graph.{GraphValue, verb_at}
-use Rattle.run_state.specs.Run.{end_so_far}
+use Rattle.run_state.specs.Run.{Unissued, end_so_far}
 use Rattle.run_core.specs.Answers.{answer_shown, phase_for, phase_of_line, AsksHandles}
-use Rattle.run_core.specs.Kept.{shown_stage}
+use Rattle.run_lists.specs.Stages.{shown_stage}
 use Rattle.run_parts.specs.declared.progress.Progress.{Progress}
-use Rattle.run_core.proofs.SourceFacts.{stage_read}
-
--- one line more
-pub line_pushed : {X : Type 0} (f : ℕ → X) (k : ℕ) (x : X) (old new : List X) → old ≡ map f (numbers_below k) → x ≡ f k → new ≡ old ++ x ∷ [] → new ≡ map f (numbers_below (k + 1))
-line_pushed f k x old new o e w = w ∙ (ap (λ xs. xs ++ x ∷ []) o ∙ (ap (λ y. map f (numbers_below k) ++ y ∷ []) e ∙ sym (map-range_with_len_more f 0 k k (omega arith))))
-
--- and one item more
-pub count_pushed : {X : Type 0} (x : X) (old new : List X) (a b k : ℕ) → a ≡ length old → b ≡ length new → new ≡ old ++ x ∷ [] → a ≡ k → b ≡ k + 1
-count_pushed x old new a b k is_old is_new w e = let more : length new ≡ length old + 1 = ap length w ∙ length_push old x in omega arith
 
 -- the value of the next phase
 pub phase_next : (g : GraphValue) (stages : List Progress) (values : List ℕ) (i : ℕ) (d : Progress) → i < length stages → phase_for (end_so_far (shown_stage (get_or stages i d))) (verb_at g i) (get_or values i 0) ≡ phase_of_line g (map shown_stage stages) values i
-phase_next g stages values i d h = ap (λ s. phase_for (end_so_far s) (verb_at g i) (get_or values i 0)) (stage_read stages i d h)
+phase_next g stages values i d h = ap (λ s. phase_for (end_so_far s) (verb_at g i) (get_or values i 0)) (sym (get_or-map shown_stage stages i d Unissued h))
 
 -- the answers of the first k handles
 pub record AnswersSoFar (handles : List Handle) (table : EventMap) (k : ℕ) (answers : List Answer) : Type 0 where

@@ -17,16 +17,8 @@ use Rattle.run_core.specs.Steps.{Issues, IsDue, Takes, with_end, with_issue, IsL
 use Rattle.run_core.specs.WhatIsOut.{SameOut, OneMoreOut, ConflictsOnlyExempt}
 use Rattle.run_core.specs.Finishing.{NothingOut}
 use Rattle.run_parts.specs.declared.answers.Issue.TheVariants as issues
-use Rattle.run_core.proofs.CoreFacts.{may_issue, may_claim, line_near, kept_core}
+use Rattle.run_core.proofs.CoreFacts.{may_issue, may_claim, line_near, kept_core, out_apart, out_here}
 use Rattle.run_core.proofs.FinishFacts.{GoesOut, goes_out, work_out}
-
--- A LINE AT ANOTHER STAGE
-module _ (stages : List LineStage) (i : ℕ) (s : LineStage) where
-  out_else : (k : ℕ) → k ≢ i → out (slice_set stages i s) k ≡ out stages k
-  out_else k other = ap stage_out (get_or-set_other stages i k s Unissued other)
-
-  out_here : i < length stages → out (slice_set stages i s) i ≡ stage_out s
-  out_here near = ap stage_out (get_or-set_same stages i s Unissued near)
 
 -- NO LINE IS ISSUED
 pub none_out_at_first : (c : CoreValue) (hosted : Bool) (g : GraphValue) (slots : ℕ) → c ≡ unissued_by hosted g slots → NothingOut c
@@ -48,7 +40,7 @@ out_issued old new core h left is = record { graph = ap (λ (c : CoreValue). c.g
     same : (k : ℕ) → out new.run.stages k ≡ out old.run.stages k
     same k = ap (λ (c : CoreValue). out c.run.stages k) is ∙ elim (cases_eq k line) [
       | inl here ↦ ap (out (slice_set old.run.stages line Issued)) here ∙ (out_here old.run.stages line Issued near ∙ (sym before ∙ ap (out old.run.stages) (sym here)))
-      | inr other ↦ out_else old.run.stages line Issued k other
+      | inr other ↦ out_apart old.run.stages line Issued k other
     ]
 
 pub out_by_answer : (old new : CoreValue) (i : ℕ) → IsCore old → Issues old new (issues.Issued i) → SameOut old new
@@ -61,7 +53,7 @@ out_taken old new w takes = record {
   hosted = gone.hosted;
   before = ap stage_out takes.due.is_issued;
   after = ap stage_out (work_out new w takes.work);
-  others = λ k other. ap (λ ss. out ss k) gone.stages ∙ out_else old.run.stages w.line Out k other;
+  others = λ k other. ap (λ ss. out ss k) gone.stages ∙ out_apart old.run.stages w.line Out k other;
 }
   where
     gone : GoesOut old new w.line
@@ -70,7 +62,7 @@ out_taken old new w takes = record {
 -- AND CONFLICTS WITH THOSE THAT ARE OUT ONLY WHERE THEY ARE EXEMPT: once it is claimed, it is out beside them
 pub taken_only_exempt : OutConflictOnlyExempt → ClaimKeepsSound → (old : CoreValue) → IsCore old → (i : ℕ) → IsDue old.graph old.run i → ConflictsOnlyExempt old i
 taken_only_exempt law claims old core i due j is_out =
-    law (effect_by (kept_faults old) old.graph) old.graph (claim old.run i).stages i j claimed.accepted claimed.on_lines (out_here old.run.stages i Out near) (out_else old.run.stages i Out j other ∙ is_out)
+    law (effect_by (kept_faults old) old.graph) old.graph (claim old.run i).stages i j claimed.accepted claimed.on_lines (out_here old.run.stages i Out near) (out_apart old.run.stages i Out j other ∙ is_out)
   where
     claimed : SoundWith (effect_by (kept_faults old) old.graph) old.graph (claim old.run i)
     claimed = claims (effect_by (kept_faults old) old.graph) old.graph old.run i (kept_core old core).sound (may_claim old i due)
@@ -88,7 +80,7 @@ out_put old new f core finished put = record {
   hosted = sym (ap (λ (c : CoreValue). c.hosted) put);
   before = ap (λ ss. out ss f.line) stages ∙ out_here old.run.stages f.line (Ended f.ends) near;
   after = ap stage_out finished.is_out;
-  others = λ k other. sym (ap (λ ss. out ss k) stages ∙ out_else old.run.stages f.line (Ended f.ends) k other);
+  others = λ k other. sym (ap (λ ss. out ss k) stages ∙ out_apart old.run.stages f.line (Ended f.ends) k other);
 }
   where
     stages : new.run.stages ≡ slice_set old.run.stages f.line (Ended f.ends)

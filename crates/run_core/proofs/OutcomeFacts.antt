@@ -29,9 +29,12 @@ use Rattle.run_state.proofs.Public.{started_below_with, ended_started}
 use Rattle.basics.proofs.ListFacts.{got_contains, map_same}
 use Rattle.run_parts.specs.LineEvents.{answer_for, last_gen_for}
 use Rattle.run_core.specs.Core.{CoreValue, unissued_by, MayFault, IsCore, kept_faults}
-use Rattle.run_core.specs.Events.{EventsValue}
+use Rattle.lent_columns.specs.Lendings.{SharedValue, column_in}
+use Rattle.run_core.specs.Readers.{no_lendings}
+use Rattle.run_lists.specs.Events.{EventsValue}
 use Rattle.run_core.specs.Answers.{answer_shown, AsksHandles, phase_for, phase_of_line}
-use Rattle.run_core.specs.Kept.{ends_so_far, shown_stage, place_of, places_of, no_past, past_of, run_by, shown_core, AreKept}
+use Rattle.run_lists.specs.Stages.{ends_so_far, shown_stage}
+use Rattle.run_core.specs.Kept.{place_of, places_of, no_past, past_of, run_by, shown_core, AreKept}
 use Rattle.run_parts.specs.declared.progress.Progress.{Progress}
 use Rattle.run_parts.specs.declared.progress.Progress.TheVariants as progress
 use Rattle.run_core.proofs.PastFacts.{clock_from, at_time}
@@ -39,7 +42,7 @@ use Rattle.run_core.proofs.PlaceFacts.{place_is, is_there}
 use Rattle.run_core.proofs.TakenFacts.{column_eq}
 use Rattle.run_core.proofs.WorkFacts.{core_of}
 use Rattle.run_core.proofs.CoreFacts.{line_near, kept_core, kept_may, core_with}
-use Rattle.run_core.proofs.HolderFacts.{holders_first}
+use Rattle.run_lists.proofs.Public.{holders_first}
 use Rattle.run_core.specs.Finishing.{IsQuiet}
 use Rattle.run_state.specs.Verdicts.{effect_by}
 use Rattle.run_core.proofs.SlotFacts.{stuck_with}
@@ -53,19 +56,19 @@ places_first : (column : ℕ → ColumnValue) (t n k : ℕ) → places_of (map (
 places_first column t zero k = refl
 places_first column t (suc n) k = ap (λ ys. Home (column k).cells ∷ ys) (places_first column t n (k + 1))
 
-pub shown_first : (hosted : Bool) (g : GraphValue) (stages : List Progress) (events : EventsValue) (homes : List (Option ColumnValue)) (takers values : List ℕ) (marks : List Bool) (trace : List ℕ) (slots : ℕ) →
-    stages ≡ replicate (length g.lines) progress.Unissued → events ≡ record { handles = []; table = fresh slots (length g.lines) (last_gen_for (length g.lines)) } → homes ≡ all_home g zero_cells → takers ≡ replicate (length (columns g)) 0 →
+pub shown_first : (hosted : Bool) (g : GraphValue) (stages : List Progress) (events : EventsValue) (homes : SharedValue) (takers values : List ℕ) (marks : List Bool) (trace : List ℕ) (slots : ℕ) →
+    stages ≡ replicate (length g.lines) progress.Unissued → events ≡ record { handles = []; table = fresh slots (length g.lines) (last_gen_for (length g.lines)) } → homes ≡ record { columns = all_home g zero_cells; lendings = no_lendings g } → takers ≡ replicate (length (columns g)) 0 →
     values ≡ map (first_value g) (numbers_below (length g.lines)) → marks ≡ replicate (length g.lines) false → trace ≡ [] →
     shown_core hosted g stages events homes takers values marks trace ≡ unissued_by hosted g slots
 shown_first hosted g stages events homes takers values marks trace slots s e h t v o r =
     (λ i. shown_core hosted g (s i) (e i) (h i) (t i) (v i) (o i) (r i))
-    ∙ (λ i. core_of hosted g (run_by (no_past g) (map_replicate shown_stage (length g.lines) 0 progress.Unissued i) (places_first (column_of g zero_cells) 0 (length (columns g)) 0 i) (map (first_value g) (numbers_below (length g.lines))) (holders_first g i)) [] (fresh slots (length g.lines) (last_gen_for (length g.lines))))
+    ∙ (λ i. core_of hosted (no_lendings g) g (run_by (no_past g) (map_replicate shown_stage (length g.lines) 0 progress.Unissued i) (places_first (column_of g zero_cells) 0 (length (columns g)) 0 i) (map (first_value g) (numbers_below (length g.lines))) (holders_first g i)) [] (fresh slots (length g.lines) (last_gen_for (length g.lines))))
 
-pub kept_first : (g : GraphValue) (homes : List (Option ColumnValue)) (takers : List ℕ) → homes ≡ all_home g zero_cells → takers ≡ replicate (length (columns g)) 0 → AreKept g homes takers
+pub kept_first : (g : GraphValue) (homes : SharedValue) (takers : List ℕ) → homes ≡ record { columns = all_home g zero_cells; lendings = no_lendings g } → takers ≡ replicate (length (columns g)) 0 → AreKept g homes takers
 kept_first g homes takers h t = record {
-  each_home = ap length h ∙ length-map-range_with_len (λ c. Some (column_of g zero_cells c)) 0 (length (columns g));
+  each_home = ap (λ (v : SharedValue). length v.columns) h ∙ length-map-range_with_len (λ c. Some (column_of g zero_cells c)) 0 (length (columns g));
   each_taker = ap length t ∙ length-replicate (length (columns g)) 0;
-  spaces = λ c x at. by_place c x (ap (λ hs. slice_index_or hs c None) (sym h) ∙ at);
+  spaces = λ c x at. by_place c x (ap (λ (v : SharedValue). column_in v c) (sym h) ∙ at);
 }
   where
     by_place : (c : ℕ) (x : ColumnValue) → slice_index_or (all_home g zero_cells) c None ≡ Some x → x.space ≡ column_space g c
@@ -98,9 +101,9 @@ any_default [] k d e h = absurd (omega (arith, h))
 any_default (x ∷ xs) zero d e h = refl
 any_default (x ∷ xs) (suc k) d e h = any_default xs k d e (omega (arith, h))
 
-pub columns_home : (c : CoreValue) (homes : List (Option ColumnValue)) (takers : List ℕ) → c.run.places ≡ places_of homes takers → IsCore c → IsQuiet c.graph c.run → AreKept c.graph homes takers → (k : ℕ) (d : Option ColumnValue) → k < length homes → IsSome (slice_index_or homes k d)
+pub columns_home : (c : CoreValue) (homes : SharedValue) (takers : List ℕ) → c.run.places ≡ places_of homes.columns takers → IsCore c → IsQuiet c.graph c.run → AreKept c.graph homes takers → (k : ℕ) (d : Option ColumnValue) → k < length homes.columns → IsSome (slice_index_or homes.columns k d)
 columns_home c homes takers shows core quiet kept k d near =
-    subst IsSome (any_default homes k None d near) (is_there homes takers k (kept.each_home ∙ sym kept.each_taker) near (λ taker at. home_when_quiet c core quiet k taker (ap (λ ps. place_at ps k) shows ∙ at)))
+    subst IsSome (any_default homes.columns k None d near) (is_there homes.columns takers k (kept.each_home ∙ sym kept.each_taker) near (λ taker at. home_when_quiet c core quiet k taker (ap (λ ps. place_at ps k) shows ∙ at)))
 
 -- THE TRACE
 pub trace_small : (c : CoreValue) (trace : List ℕ) → ClockIsSmall → c.run.clock ≡ (past_of c.graph (ends_so_far c.run.stages) trace).clock → IsCore c → length trace ≤ length c.graph.lines
@@ -137,8 +140,8 @@ phases_agree run p _ _ = refl
 abbrev pub outcome_of_parts : List End → List Answer → List (Option ℕ) → List ColumnValue → List ℕ → Outcome
 outcome_of_parts ends answers phases held trace = record { «ends» = ends; «answers» = answers; «phases» = phases; columns = held; «trace» = trace }
 
-module _ (c : CoreValue) (core : IsCore c) (quiet : IsQuiet c.graph c.run) (stages : List Progress) (homes : List (Option ColumnValue)) (takers : List ℕ)
-    (stages_are : c.run.stages ≡ map shown_stage stages) (places_are : c.run.places ≡ places_of homes takers) (kept : AreKept c.graph homes takers)
+module _ (c : CoreValue) (core : IsCore c) (quiet : IsQuiet c.graph c.run) (stages : List Progress) (homes : SharedValue) (takers : List ℕ)
+    (stages_are : c.run.stages ≡ map shown_stage stages) (places_are : c.run.places ≡ places_of homes.columns takers) (kept : AreKept c.graph homes takers)
   where
     abbrev lines : ℕ
     lines = length c.graph.lines
@@ -158,22 +161,22 @@ module _ (c : CoreValue) (core : IsCore c) (quiet : IsQuiet c.graph c.run) (stag
     phases_are : map (phase_of_line c.graph c.run.stages c.run.values) (numbers_below lines) ≡ map (phase_so_far c.graph c.run) (numbers_below lines)
     phases_are = map_same (phase_of_line c.graph c.run.stages c.run.values) (phase_so_far c.graph c.run) (numbers_below lines) (λ i. phases_agree c.run i (end_so_far (stage_at c.run.stages i)) (verb_at c.graph i))
 
-    columns_are : (held : List ColumnValue) → homes ≡ map (λ x. Some x) held → held ≡ map (λ k. record { space = column_space c.graph k; cells = cells_at (place_at c.run.places k) }) (numbers_below (length (columns c.graph)))
+    columns_are : (held : List ColumnValue) → homes.columns ≡ map (λ x. Some x) held → held ≡ map (λ k. record { space = column_space c.graph k; cells = cells_at (place_at c.run.places k) }) (numbers_below (length (columns c.graph)))
     columns_are held is =
         let long : length held ≡ length (columns c.graph) = sym (length-map held (λ x. Some x)) ∙ (ap length (sym is) ∙ kept.each_home) in
         fill_by_all (λ k. record { space = column_space c.graph k; cells = cells_at (place_at c.run.places k) }) held (length (columns c.graph)) (record { space = []; cells = [] }) long
         (λ k near. (
         let x : ColumnValue = slice_index_or held k (record { space = []; cells = [] }) in
-        let in_homes : k < length homes = subst (λ n. k < n) (sym kept.each_home) near in
-        let at : slice_index_or homes k None ≡ Some x = ap (λ hs. slice_index_or hs k None) is ∙ get_or-map (λ y. Some y) held k (record { space = []; cells = [] }) None (subst (λ n. k < n) (sym long) near) in
-        let place : place_at c.run.places k ≡ Home x.cells = ap (λ ps. place_at ps k) places_are ∙ (place_is homes takers k (kept.each_home ∙ sym kept.each_taker) in_homes ∙ ap (λ o. place_of o (slice_index takers k)) at) in
+        let in_homes : k < length homes.columns = subst (λ n. k < n) (sym kept.each_home) near in
+        let at : slice_index_or homes.columns k None ≡ Some x = ap (λ hs. slice_index_or hs k None) is ∙ get_or-map (λ y. Some y) held k (record { space = []; cells = [] }) None (subst (λ n. k < n) (sym long) near) in
+        let place : place_at c.run.places k ≡ Home x.cells = ap (λ ps. place_at ps k) places_are ∙ (place_is homes.columns takers k (kept.each_home ∙ sym kept.each_taker) in_homes ∙ ap (λ o. place_of o (slice_index takers k)) at) in
         column_eq x (record { space = column_space c.graph k; cells = cells_at (place_at c.run.places k) }) (kept.spaces k x at) (sym (ap cells_at place))))
 
     gives : QuietGivesOutcome → (trace : List ℕ) → ByTimes c.run trace → (faults : ℕ → Bool) → MayFault c faults → GivesOutcomeWith (effect_by faults c.graph) c.graph c.run trace
     gives law trace by faults may = law (effect_by faults c.graph) c.graph c.run trace (core_with c core faults may).sound (stuck_with c core (length c.graph.lines) quiet faults may) by
 
     pub outcome_is : QuietGivesOutcome → (trace : List ℕ) → ByTimes c.run trace → (ends : List End) (answers : List Answer) (phases : List (Option ℕ)) (held : List ColumnValue) →
-        ends ≡ map (λ p. end_so_far (shown_stage p)) stages → AsksHandles c.handles c.table answers → phases ≡ map (phase_of_line c.graph c.run.stages c.run.values) (numbers_below lines) → homes ≡ map (λ x. Some x) held →
+        ends ≡ map (λ p. end_so_far (shown_stage p)) stages → AsksHandles c.handles c.table answers → phases ≡ map (phase_of_line c.graph c.run.stages c.run.values) (numbers_below lines) → homes.columns ≡ map (λ x. Some x) held →
         (faults : ℕ → Bool) → MayFault c faults → outcome_of_parts ends answers phases held trace ≡ outcome_with (effect_by faults c.graph) zero_cells c.graph trace
     outcome_is law trace by ends answers phases held e a p h faults may =
         (λ i. outcome_of_parts ((e ∙ ends_are) i) (answers_are answers a i) ((p ∙ phases_are) i) (columns_are held h i) trace) ∙ (gives law trace by faults may).outcome_is

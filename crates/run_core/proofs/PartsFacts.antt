@@ -10,7 +10,7 @@ use Rattle.run_state.specs.Run.{Run}
 use Rattle.run_parts.specs.Shown.{IsShown}
 use Rattle.run_parts.specs.declared.states.LineState.{LineState}
 use Rattle.run_core.specs.Core.{CoreValue, unissued}
-use Rattle.run_core.specs.Events.{EventsValue}
+use Rattle.run_lists.specs.Events.{EventsValue}
 use Rattle.run_core.specs.Resumed.{ShowState}
 
 state_of : (g : GraphValue) (run : Run) (handles : List Handle) (lines : List LineState) (table : EventMap) (homes : List (Option ColumnValue)) (phases : List (Option ℕ)) →

@@ -7,7 +7,8 @@ use Rattle.std.proofs.lemmas.Option.{none-some, same_Some}
 use Rattle.graph_terms.specs.Graph.{GraphValue}
 use Rattle.run_state.specs.Run.{time_at, is_listed}
 use Rattle.basics.proofs.ListFacts.{same_at}
-use Rattle.run_core.specs.Kept.{Past, no_past, with_line, past_from, past_of, frees}
+use Rattle.run_lists.specs.Holders.{frees}
+use Rattle.run_core.specs.Kept.{Past, no_past, with_line, past_from, past_of}
 use Rattle.graph_terms.specs.declared.outcome.End.{End}
 use Rattle.run_state.specs.WholeLine.{all_back, columns_for, arrived_with, arrival_for, freed_with}
 use Rattle.run_state.proofs.Public.{listed_here, listed_there}

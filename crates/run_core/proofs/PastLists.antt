@@ -11,7 +11,8 @@ use Rattle.run_state.specs.Sound.{Once}
 use Rattle.run_state.specs.WholeLine.{all_back, columns_for, arrived_with, arrival_for, freed_with}
 use Rattle.run_state.proofs.Public.{listed_here, listed_there, listed_cases, none_listed, listed_push, push_listed, once_push}
 use Rattle.run_state.proofs.Reductions.{Fresh}
-use Rattle.run_core.specs.Kept.{Past, with_line, past_from, frees}
+use Rattle.run_lists.specs.Holders.{frees}
+use Rattle.run_core.specs.Kept.{Past, with_line, past_from}
 use Rattle.graph_terms.specs.declared.outcome.End.{End}
 
 -- ONE LINE MORE

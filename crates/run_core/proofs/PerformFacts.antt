@@ -4,7 +4,7 @@ use Rattle.std.specs.Prelude.{◌≢◌, ◌&&◌, cond, Bool, Option, Some, Non
 use Rattle.std.proofs.lemmas.Bool.{true≢false, false≢true}
 use Rattle.std.proofs.lemmas.Option.{same_Some}
 use Rattle.index_spaces.specs.Column.{ColumnValue}
-use Rattle.index_spaces.specs.Held.{held_at}
+use Rattle.index_spaces.specs.Held.{HeldList, held_at, lending_at}
 use Rattle.graph_terms.specs.declared.outcome.End.TheVariants.{Done, Faulted, Cancelled}
 use Rattle.graph_terms.specs.declared.outcome.Verdict.{Verdict}
 use Rattle.graph_terms.specs.declared.outcome.Verdict.TheVariants.{Fine, Fault}
@@ -13,12 +13,12 @@ use Rattle.graph_terms.specs.Access.{accesses}
 use Rattle.graph_meaning.specs.Effect.{Cells, CellChange, Effect, Effects, zero_cells, effect, cells_after, verb_verdict, verb_changes}
 use Rattle.graph_meaning.specs.Evaluation.{end_with, end_by, made_by, column_of}
 use Rattle.basics.proofs.ListFacts.{map_contains, got_contains}
-use Rattle.line_effects.specs.Moved.{moves, HeldShow}
+use Rattle.line_effects.specs.Moved.{moves, HeldShow, OwnsChanged}
 use Rattle.line_effects.proofs.Public.{all_made}
 use Rattle.run_state.specs.Run.{stage_out, stage_started}
 use Rattle.run_state.specs.Sound.{AccessesColumn}
-use Rattle.run_state.specs.Work.{HoldsAllWith, cells_now_with}
-use Rattle.run_state.specs.Laws.{WorkIsAsEvaluated, WorkGivesCells}
+use Rattle.run_state.specs.Work.{SeesAllWith, cells_now_with}
+use Rattle.run_state.specs.Laws.{SightIsAsEvaluated, SightGivesCells}
 use Rattle.run_core.specs.Core.{CoreValue, IsCoreWith, IsCore, Tells, kept_faults}
 use Rattle.run_core.specs.Works.{WorkValue, column_now, column_left, IsWorkWith, IsWork, IsFinishedWith, IsFinished, verdict_by}
 use Rattle.std.specs.Option.{option_map_or}
@@ -27,6 +27,7 @@ use Rattle.graph_terms.specs.declared.verb.Verb.TheVariants.{Call}
 use Rattle.graph_terms.specs.Graph.{GraphValue, is_call, line_passes, space_at, verb_at}
 use Rattle.run_state.specs.Verdicts.{faulted, effect_by}
 use Rattle.run_core.proofs.CoreFacts.{kept_may, core_with}
+use Rattle.run_core.proofs.WorkFacts.{sees_now}
 use Rattle.run_state.proofs.Public.{started_below_with}
 
 -- the columns that are held are those of the core
@@ -37,6 +38,9 @@ pub work_moves : {does : Effects} (c : CoreValue) (w : WorkValue) → IsWorkWith
 work_moves {does} c w is runs k col at =
     let m = map_contains (λ (a : Access). a.column) (accesses c.graph w.line) col (got_contains (moves c.graph w.line) k col at) in
     subst IsSome (sym ((is.holds runs).has col m)) refl
+
+pub work_owns : {does : Effects} (c : CoreValue) (w : WorkValue) → IsWorkWith does c w → w.is_cancelled ≡ false → OwnsChanged c.graph w.line w.held
+work_owns {does} c w is runs a listed changes = (is.holds runs).own a.column (a, listed, refl, changes)
 
 -- a line that is cancelled ends so
 pub cancelled_finished : (c : CoreValue) (w : WorkValue) → IsWork c w → w.is_cancelled ≡ true → IsFinished c (record { line = w.line; ends = Cancelled; held = w.held })
@@ -62,8 +66,8 @@ column_same : (x y : ColumnValue) → x.space ≡ y.space → x.cells ≡ y.cell
 column_same x y a b = λ t. record { space = a t; cells = b t }
 
 -- a line that runs leaves its columns as in the evaluation
-module _ {does : Effects} (evaluated : WorkIsAsEvaluated) (gives : WorkGivesCells) (c : CoreValue) (core : IsCoreWith does c) (w : WorkValue) (is : IsWorkWith does c w) (runs : w.is_cancelled ≡ false) (verdict : Verdict) (held' : List (ℕ × ColumnValue))
-    (same : (k : ℕ) → is_some (held_at held' k) ≡ is_some (held_at w.held k))
+module _ {does : Effects} (evaluated : SightIsAsEvaluated) (gives : SightGivesCells) (c : CoreValue) (core : IsCoreWith does c) (w : WorkValue) (is : IsWorkWith does c w) (runs : w.is_cancelled ≡ false) (verdict : Verdict) (held' : HeldList)
+    (same : (k : ℕ) → is_some (held_at held' k) ≡ is_some (held_at w.held k)) (lendings : (k : ℕ) → lending_at held' k ≡ lending_at w.held k)
     (made : (verdict ≡ (does w.line (cells_now_with does c.graph c.run)).verdict) × HeldShow c.graph (cells_after (cells_now_with does c.graph c.run) (does w.line (cells_now_with does c.graph c.run)).changes) held')
     (changes_same : made_by (does w.line (cells_now_with does c.graph c.run)).verdict (does w.line (cells_now_with does c.graph c.run)).changes ≡ (does w.line (cells_now_with does c.graph c.run)).changes)
   where
@@ -73,20 +77,15 @@ module _ {does : Effects} (evaluated : WorkIsAsEvaluated) (gives : WorkGivesCell
     not_cancelled : end_with does zero_cells c.graph w.line ≢ Cancelled
     not_cancelled e = true≢false (sym (is.cancelled.1 e) ∙ runs)
 
-    holds_all : HoldsAllWith does c.graph c.run w.line cells
-    holds_all = record {
-      is_out = ap stage_out is.is_out;
-      not_cancelled = not_cancelled;
-      has = λ k a. core.at_rest.out_has w.line k (ap stage_out is.is_out) not_cancelled a;
-      holds = λ k a p h. refl;
-    }
+    sees_all : SeesAllWith does c.graph c.run w.line cells
+    sees_all = sees_now c.graph c.run core.sound core.at_rest.lines w.line is.is_out not_cancelled
 
     ends_so : end_with does zero_cells c.graph w.line ≡ end_by verdict
-    ends_so = sym (evaluated does c.graph c.run w.line cells core.sound holds_all).end_is ∙ ap end_by (sym made.0)
+    ends_so = sym (evaluated does c.graph c.run w.line cells core.sound sees_all).end_is ∙ ap end_by (sym made.0)
 
     left_so : (k : ℕ) (x : ColumnValue) → held_at held' k ≡ Some x → AccessesColumn c.graph w.line k → x ≡ column_left does c w.line k
     left_so k x at a = made.1 k x at ∙ column_same _ (column_left does c w.line k) refl
-        (ap (λ (xs : List CellChange). (column_of c.graph (cells_after cells xs) k).cells) (sym changes_same) ∙ gives does c.graph c.run w.line k cells core.sound holds_all a)
+        (ap (λ (xs : List CellChange). (column_of c.graph (cells_after cells xs) k).cells) (sym changes_same) ∙ (gives does c.graph c.run w.line k cells core.sound sees_all a).0)
 
     accessed : (k : ℕ) (x : ColumnValue) → held_at held' k ≡ Some x → AccessesColumn c.graph w.line k
     accessed k x at = let o = some_where (held_at held' k) (held_at w.held k) (sym (same k)) (subst IsSome (sym at) refl) in (is.holds runs).only k o.0 o.1
@@ -99,6 +98,8 @@ module _ {does : Effects} (evaluated : WorkIsAsEvaluated) (gives : WorkGivesCell
       holds = λ n. record {
         has = λ k a. (let o = some_where (held_at w.held k) (held_at held' k) (same k) (subst IsSome (sym ((is.holds runs).has k a)) refl) in o.1 ∙ ap Some (left_so k o.0 o.1 a));
         only = accessed;
+        own = λ k a. lendings k ∙ (is.holds runs).own k a;
+        shares = λ k only. lendings k ∙ (is.holds runs).shares k only;
       };
     }
 
@@ -159,11 +160,11 @@ tells_by : (hosted : Bool) (said : Verdict) (b : Bool) → (hosted ≡ true → 
 tells_by true said b h n = h refl
 tells_by false said b h n = let w = n refl in subst (λ v. Tells (end_by v) b) (sym w.0) w.1
 
-pub said_finished : WorkIsAsEvaluated → WorkGivesCells → (c : CoreValue) → IsCore c → (w : WorkValue) → IsWork c w → w.is_cancelled ≡ false → (said own : Verdict) → (c.hosted ≡ false → said ≡ Fine) → (held' : List (ℕ × ColumnValue)) →
-    ((k : ℕ) → is_some (held_at held' k) ≡ is_some (held_at w.held k)) →
+pub said_finished : SightIsAsEvaluated → SightGivesCells → (c : CoreValue) → IsCore c → (w : WorkValue) → IsWork c w → w.is_cancelled ≡ false → (said own : Verdict) → (c.hosted ≡ false → said ≡ Fine) → (held' : HeldList) →
+    ((k : ℕ) → is_some (held_at held' k) ≡ is_some (held_at w.held k)) → ((k : ℕ) → lending_at held' k ≡ lending_at w.held k) →
     ((cells : Cells) → HeldShow c.graph cells w.held → (own ≡ (effect c.graph w.line cells).verdict) × HeldShow c.graph (cells_after cells (effect c.graph w.line cells).changes) held') →
     IsFinished c (record { line = w.line; ends = end_by (verdict_by (line_passes is_call c.graph w.line) said own); held = held' })
-said_finished evaluated gives c core w is runs said own unhosted held' same made = record {
+said_finished evaluated gives c core w is runs said own unhosted held' same lendings made = record {
   is_out = (is (kept_faults c) (kept_may c)).is_out;
   evaluated = λ faults may told. (
       let work = is faults may in
@@ -171,7 +172,7 @@ said_finished evaluated gives c core w is runs said own unhosted held' same made
       let did = made cells (work_shows c w work runs) in
       let does = said_by c.graph faults w.line cells said own did.0 (line_passes is_call c.graph w.line) refl
       (λ call. tells_by c.hosted said (faults w.line) (λ h. subst (λ b. Tells (end_by (verdict_by b said own)) (faults w.line)) call (told h call)) (λ n. (unhosted n, may.none n w.line))) in
-      run_finished evaluated gives c (core_with c core faults may) w work runs (verdict_by (line_passes is_call c.graph w.line) said own) held' same
+      run_finished evaluated gives c (core_with c core faults may) w work runs (verdict_by (line_passes is_call c.graph w.line) said own) held' same lendings
       (does.verdict_is, subst (λ (xs : List CellChange). HeldShow c.graph (cells_after cells xs) held') does.changes_are did.1) does.all_made);
 }
 

@@ -15,18 +15,22 @@ use Rattle.run_state.specs.Run.{LineStage, Unissued, Issued, Out, Ending, Ended,
 use Rattle.run_state.proofs.Public.{ended_over, stage_there, started_below, kept_is, ended_started}
 use Rattle.basics.proofs.Choices.{some_is, is_some_of}
 use Rattle.run_core.specs.Core.{CoreValue, IsCore}
-use Rattle.run_core.specs.Events.{EventsValue}
+use Rattle.run_lists.specs.Events.{EventsValue, handle_by, handle_of_issued, issued_handles}
 use Rattle.std.proofs.lemmas.List.FromFn.{length-map-range_with_len}
-use Rattle.run_core.specs.Holders.{holders_at, holders_by}
-use Rattle.run_core.specs.Kept.{shown_stage, place_of, places_of, shown_core, AreKept}
+use Rattle.run_lists.specs.Holders.{holders_at, holders_by}
+use Rattle.run_lists.specs.Stages.{shown_stage}
+use Rattle.run_core.specs.Kept.{place_of, places_of, shown_core, AreKept}
 use Rattle.run_parts.specs.Shown.{stage_of}
 use Rattle.run_parts.specs.Shown.{blank_state, state_at}
-use Rattle.run_core.specs.Resumed.{progress_by, progress_for, stage_is_over, over_at, handle_by, handle_of_issued, issued_handles, value_or_zero, HoldsNow, AreBeside, ShowState, InState}
+use Rattle.run_core.specs.Resumed.{progress_by, progress_for, stage_is_over, over_at, value_or_zero, HoldsNow, AreBeside, ShowState, InState}
 use Rattle.run_parts.specs.declared.progress.Progress.{Progress}
 use Rattle.run_parts.specs.declared.progress.Progress.TheVariants as progress
 use Rattle.run_parts.specs.declared.states.LineState.{LineState}
 use Rattle.run_core.proofs.PlaceFacts.{place_is, length-places}
-use Rattle.run_core.proofs.ResumeFacts.{bool_same, HeldNow, held_beside, same_back, same_arrived, same_freed, same_holders, resumed_run, resumed_sound, resumed_at_rest, run_is_kept}
+use Rattle.run_core.proofs.ResumeFacts.{HeldNow, held_beside, same_back, same_arrived, same_freed, same_holders, resumed_run, resumed_sound, resumed_at_rest, resumed_none_out, run_is_kept}
+use Rattle.lent_columns.specs.Lendings.{SharedValue}
+use Rattle.run_core.specs.Readers.{no_lendings}
+use Rattle.run_core.proofs.ReaderFacts.{bool_same, lent_first}
 use Rattle.run_core.proofs.CoreFacts.{unhosted_core, kept_core}
 
 stage_over : (st : LineStage) → stage_is_over (stage_of st) ≡ stage_ended st
@@ -153,6 +157,10 @@ module _ (c : CoreValue) (core : IsCore c) (run : Run) (handles : List Handle) (
         let at = shows.phases_show.value p b e in
         get_or-map value_or_zero phases p None 0 (slice_get_within phases p (Some (slice_index run.values p)) at) ∙ ap value_or_zero (get_or_from_slice_get phases p (Some (slice_index run.values p)) None at)
 
+    -- its columns, of which none is lent
+    abbrev pub at_home : SharedValue
+    at_home = record { columns = homes; lendings = no_lendings c.graph }
+
     module _ (takers : List ℕ) (taken : length takers ≡ length (columns c.graph)) where
       pub same_places : places_of homes takers ≡ run.places
       same_places = ext_get_or (Home []) (places_of homes takers) run.places
@@ -163,7 +171,7 @@ module _ (c : CoreValue) (core : IsCore c) (run : Run) (handles : List Handle) (
           place_is homes takers k (shows.homes_show.each_home ∙ sym taken) inside
           ∙ (ap (λ o. place_of o (slice_index takers k)) (get_or_from_slice_get homes k (Some h.0) None h.1) ∙ sym h.3))
 
-      pub resumed_kept : AreKept c.graph homes takers
+      pub resumed_kept : AreKept c.graph at_home takers
       resumed_kept = record {
         each_home = shows.homes_show.each_home;
         each_taker = taken;
@@ -204,12 +212,13 @@ module _ (c : CoreValue) (core : IsCore c) (run : Run) (handles : List Handle) (
           the_run = resumed_run c.graph run shows.sound shows.quiet trace long placed values each_value same_values (holders_by c.graph marks) each_lock held_only held_all
 
           abbrev pub the_core : CoreValue
-          the_core = record { graph = c.graph; «run» = the_run; «handles» = handles; «table» = table; hosted = false }
+          the_core = record { graph = c.graph; «run» = the_run; «handles» = handles; «table» = table; hosted = false; lendings = no_lendings c.graph }
 
           pub is_core : IsCore the_core
           is_core = unhosted_core the_core refl (record {
             sound = resumed_sound c.graph run shows.sound shows.quiet trace long placed values each_value same_values (holders_by c.graph marks) each_lock held_only held_all;
             at_rest = resumed_at_rest c.graph run shows.sound shows.quiet trace long placed values each_value same_values (holders_by c.graph marks) each_lock held_only held_all;
+            lent = lent_first c.graph run.stages (resumed_none_out c.graph run shows.sound shows.quiet trace long placed values each_value same_values (holders_by c.graph marks) each_lock held_only held_all);
             events = shows.events;
             slots = λ n need. subst (λ k. n ≤ k) (sym shows.slots) ((kept_core c core).slots n need);
           })
@@ -220,6 +229,7 @@ module _ (c : CoreValue) (core : IsCore c) (run : Run) (handles : List Handle) (
             handled = refl;
             tabled = refl;
             unhosted = refl;
+            unlent = refl;
             stages = refl;
             times = refl;
             clock = refl;
@@ -231,20 +241,21 @@ module _ (c : CoreValue) (core : IsCore c) (run : Run) (handles : List Handle) (
             freed = same_freed c.graph run shows.sound shows.quiet trace long placed;
           }
 
-          pub core_is : (stages : List Progress) (events : EventsValue) (vs : List ℕ) → stages ≡ map progress_for lines → events ≡ record { handles = issued_handles lines; table = table } → vs ≡ map value_or_zero phases →
-              shown_core false c.graph stages events homes takers vs marks trace ≡ the_core
-          core_is stages events vs s e v =
-              (λ t. shown_core false c.graph (s t) (e t) homes takers (v t) marks trace)
+          pub core_is : (stages : List Progress) (events : EventsValue) (shared : SharedValue) (vs : List ℕ) → shared ≡ at_home → stages ≡ map progress_for lines → events ≡ record { handles = issued_handles lines; table = table } → vs ≡ map value_or_zero phases →
+              shown_core false c.graph stages events shared takers vs marks trace ≡ the_core
+          core_is stages events shared vs h s e v =
+              (λ t. shown_core false c.graph (s t) (e t) (h t) takers (v t) marks trace)
               ∙ (λ t. record {
                 graph = c.graph;
                 «run» = run_is_kept c.graph run shows.sound shows.quiet trace long placed values each_value same_values (holders_by c.graph marks) each_lock held_only held_all (map shown_stage (map progress_for lines)) (places_of homes takers) same_stages same_places t;
                 «handles» = same_handles t;
                 «table» = table;
                 hosted = false;
+                lendings = no_lendings c.graph;
               })
 
-          pub resumed_is : (stages : List Progress) (events : EventsValue) (vs : List ℕ) → stages ≡ map progress_for lines → events ≡ record { handles = issued_handles lines; table = table } → vs ≡ map value_or_zero phases →
-              IsCore (shown_core false c.graph stages events homes takers vs marks trace) × InState c.graph run handles table (shown_core false c.graph stages events homes takers vs marks trace)
-          resumed_is stages events vs s e v =
-              let is = sym (core_is stages events vs s e v) in
+          pub resumed_is : (stages : List Progress) (events : EventsValue) (shared : SharedValue) (vs : List ℕ) → shared ≡ at_home → stages ≡ map progress_for lines → events ≡ record { handles = issued_handles lines; table = table } → vs ≡ map value_or_zero phases →
+              IsCore (shown_core false c.graph stages events shared takers vs marks trace) × InState c.graph run handles table (shown_core false c.graph stages events shared takers vs marks trace)
+          resumed_is stages events shared vs h s e v =
+              let is = sym (core_is stages events shared vs h s e v) in
               (subst IsCore is is_core, subst (InState c.graph run handles table) is in_state)

@@ -2,7 +2,7 @@
 use Rattle.std.proofs.Common.{◌≡◌, ◌≢◌, ℕ, ◌+◌, ◌<◌, Bool, true, false, ◌⊎◌, inl, inr, List, [], map, length, refl, sym, ◌∙◌, ap, subst, arith}
 use Rattle.std.specs.Prelude.{Option, Some, None, slice_get, slice_index}
 use Rattle.std.specs.Option.{option_map_or}
-use Rattle.std.proofs.lemmas.Bool.{true≢false}
+use Rattle.std.proofs.lemmas.Bool.{true≢false, false_from_ne_true}
 use Rattle.std.proofs.lemmas.List.{ext_get_or}
 use Rattle.std.proofs.lemmas.List.FromFn.{length-map-range_with_len}
 use Rattle.std.proofs.lemmas.Option.{none-some, same_Some, slice_get_within, slice_get-get_or}
@@ -21,14 +21,17 @@ use Rattle.graph_meaning.proofs.Public.{ends_by_turn}
 use Rattle.graph_terms.proofs.Public.{acquire_is, release_is, passes_verb, verb_passes, release_names}
 use Rattle.run_state.specs.Run.{LineStage, Place, Run, is_listed, stage_at, time_at, list_at, started, ended, out, timed}
 use Rattle.run_state.specs.Sound.{AccessesColumn, is_arrive, value_for, Once, SoundColumns, SoundPhases, SoundLocks, Sound}
-use Rattle.run_state.specs.AtRest.{AtRest}
+use Rattle.run_state.specs.Sharing.{AtRestSharingWith}
 use Rattle.run_state.specs.WholeLine.{lock_by, lock_of, columns_for, arrival_by, arrival_for, freed_lock}
 use Rattle.run_state.proofs.Public.{listed_contains, none_listed, out_started, over_started, ended_over, out_not_ended, started_below, started_ends, column_there, got_listed, accessed_listed, kept_is, ended_started}
 use Rattle.basics.proofs.Choices.{some_is, is_some_of}
 use Rattle.run_state.proofs.PutBack.{for_listed, acquire_is_ended}
 use Rattle.run_state.proofs.Reductions.{once_fresh, same_reduced}
 use Rattle.basics.proofs.ListFacts.{same_at}
-use Rattle.run_core.specs.Kept.{Past, no_past, past_of, run_by, frees_as, frees, ends_so_far}
+use Rattle.run_lists.specs.Holders.{frees_as, frees}
+use Rattle.run_lists.specs.Stages.{ends_so_far}
+use Rattle.run_core.specs.Kept.{Past, no_past, past_of, run_by}
+use Rattle.run_core.proofs.ReaderFacts.{bool_same}
 use Rattle.run_core.proofs.PastFacts.{clock_from, at_time, past_same}
 use Rattle.run_core.proofs.PastLists.{length-back_from, length-times_from, back_cases, back_new, arrived_from_cases, arrived_from_new, once_from, Frees, freed_from_cases, freed_from_new, times_new}
 use Rattle.run_core.proofs.EndedFacts.{frees_where}
@@ -38,11 +41,6 @@ no_times_long n = length-map-range_with_len (λ (k : ℕ). (let none : Option �
 
 no_back_long : (n : ℕ) → length (map (λ (k : ℕ). (let none : List ℕ = [] in none)) (numbers_below n)) ≡ n
 no_back_long n = length-map-range_with_len (λ (k : ℕ). (let none : List ℕ = [] in none)) 0 n
-
-pub bool_same : (a b : Bool) → (a ≡ true → b ≡ true) → (b ≡ true → a ≡ true) → a ≡ b
-bool_same true b f h = sym (f refl)
-bool_same false true f h = h refl
-bool_same false false f h = refl
 
 listed_got : (xs : List ℕ) (i : ℕ) → is_listed xs i ≡ true → (k : ℕ) × (slice_get xs k ≡ Some i)
 listed_got xs i h = let c = listed_contains xs i h in (c.0, slice_get-get_or xs c.0 i c.1 ∙ ap Some c.2)
@@ -297,16 +295,22 @@ module _ (g : GraphValue) (run : Run) (s : Sound g run) (quiet : (i : ℕ) → s
         not_out : (i : ℕ) → out run.stages i ≡ true → ⊥
         not_out i o = true≢false (sym (quiet i (out_started (stage_at run.stages i) o)) ∙ out_not_ended (stage_at run.stages i) o)
 
-        pub resumed_at_rest : AtRest g resumed_run
+        pub resumed_at_rest : AtRestSharingWith (effect g) g resumed_run
         resumed_at_rest = record {
-          none_ending = λ i o. quiet i (over_started (stage_at run.stages i) o);
-          back_ended = λ c i h. quiet i (s.on_columns.back_started c i (sym (same_back c i) ∙ h));
-          arrived_ended = λ i h. quiet i (s.on_phases.arrived_started i (sym (same_arrived i) ∙ h));
-          freed_ended = freed_ended;
+          lines = record {
+            none_ending = λ i o. quiet i (over_started (stage_at run.stages i) o);
+            back_ended = λ c i h. quiet i (s.on_columns.back_started c i (sym (same_back c i) ∙ h));
+            arrived_ended = λ i h. quiet i (s.on_phases.arrived_started i (sym (same_arrived i) ∙ h));
+            freed_ended = freed_ended;
+            out_holds = λ i l o. absurd (not_out i o);
+            out_untimed = λ i o. absurd (not_out i o);
+          };
           out_has = λ i c o. absurd (not_out i o);
-          out_holds = λ i l o. absurd (not_out i o);
-          out_untimed = λ i o. absurd (not_out i o);
+          out_reads = λ i c o. absurd (not_out i o);
         }
+
+        pub resumed_none_out : (i : ℕ) → out run.stages i ≡ false
+        resumed_none_out i = false_from_ne_true (out run.stages i) (not_out i)
 
         pub run_is : (stages : List LineStage) (places : List Place) → stages ≡ run.stages → places ≡ run.places → run_by past stages places values holders ≡ resumed_run
         run_is stages places es ep = λ t. record {

@@ -1,18 +1,18 @@
 -- A slot is free where a line is left and none of the others can be taken.
 use Rattle.std.proofs.Common.{◌≡◌, ℕ, suc, ◌+◌, ◌-◌, ◌<◌, ◌≤◌, Bool, true, false, cond, List, [], ◌∷◌, length, refl, ap, arith, sym, ◌∙◌, inl, inr}
 use Rattle.std.specs.Prelude.{slice_index_or}
+use Rattle.std.proofs.lemmas.Bool.{true≢false}
 use Rattle.graph_meaning.specs.Need.{IsNeed}
 use Rattle.basics.specs.Sums.{total}
 use Rattle.event_table.specs.EventMap.{EventMap, SlotLife, unused, life_at, IsRetired, IsFull}
 use Rattle.basics.proofs.Sums.{entry_le}
 use Rattle.run_state.specs.Quiet.{CanTakeWith, IsFreeWith, StuckWith, left_among}
 use Rattle.run_state.specs.Verdicts.{effect_by}
-use Rattle.run_core.specs.Steps.{IsDue}
+use Rattle.run_core.specs.Steps.{IsDue, IsLeft}
 use Rattle.run_core.proofs.CoreFacts.{kept_core, kept_may, due_cancelled}
 use Rattle.run_state.specs.Laws.{LeftBelowNeed}
 use Rattle.run_parts.specs.LineEvents.{created_in, pending_in, count_left}
 use Rattle.run_core.specs.Core.{CoreValue, MayFault, IsCore, kept_faults}
-use Rattle.run_core.specs.Steps.{IsLeft}
 use Rattle.run_core.specs.Finishing.{NothingOut, IsFreeSoFar, CanBeTaken, IsStuck}
 use Rattle.run_state.specs.Run.{ended}
 
@@ -38,29 +38,29 @@ created_few m n i all near =
     omega (arith, part, all)
 
 -- a line that can be taken whichever calls may fault can be so by the ends that are kept
-pub taken_with : (c : CoreValue) → IsCore c → (faults : ℕ → Bool) → MayFault c faults → (i : ℕ) → CanTakeWith (effect_by faults c.graph) c.graph c.run i → CanBeTaken c.graph c.run i
-taken_with c core faults may i can = record { is_issued = can.is_issued; comes = can.comes; sources = due.sources; is_free = by_free can.is_free }
+pub taken_with : (c : CoreValue) → IsCore c → NothingOut c → (faults : ℕ → Bool) → MayFault c faults → (i : ℕ) → CanTakeWith (effect_by faults c.graph) c.graph c.run i → CanBeTaken c.graph c.run i
+taken_with c core nothing faults may i can = record { is_issued = can.is_issued; comes = can.comes; sources = due.sources; is_free = by_free can.is_free }
   where
     due : IsDue c.graph c.run i
     due = record { is_issued = can.is_issued; comes = can.comes; sources = λ j w. ap (ended c.run.stages) (sym w.2) ∙ can.sources w.0 w.1 w.3 }
 
     by_free : IsFreeWith (effect_by faults c.graph) c.graph c.run i → IsFreeSoFar c.graph c.run i
     by_free (inl cancelled) = inl ((due_cancelled c core i due faults may).1 cancelled)
-    by_free (inr free) = inr free
+    by_free (inr free) = inr (free.0, λ k a. (free.1 k a, λ changes j r. true≢false (sym r.is_out ∙ nothing j)))
 
 pub stuck_with : (c : CoreValue) → IsCore c → (k : ℕ) → IsStuck c.graph c.run k → (faults : ℕ → Bool) → MayFault c faults → StuckWith (effect_by faults c.graph) c.graph c.run k
 stuck_with c core k stuck faults may = record {
   first_issued = stuck.first_issued;
   none_out = stuck.none_out;
   none_ending = stuck.none_ending;
-  none_taken = λ i can. stuck.none_taken i (taken_with c core faults may i can);
+  none_taken = λ i can. stuck.none_taken i (taken_with c core stuck.none_out faults may i can);
 }
 
 pub stuck_at : (c : CoreValue) → IsCore c → NothingOut c → ((i : ℕ) → CanBeTaken c.graph c.run i → ⊥) → IsStuck c.graph c.run (length c.handles)
 stuck_at c core nothing none = record {
   first_issued = λ i l. ((kept_core c core).events.each_issued i).1 l;
   none_out = nothing;
-  none_ending = (kept_core c core).at_rest.none_ending;
+  none_ending = (kept_core c core).at_rest.lines.none_ending;
   none_taken = none;
 }
 

@@ -7,7 +7,9 @@ use Rattle.basics.specs.Lists.{count_below}
 use Rattle.run_state.specs.Run.{Run, Issued, Ended, stage_at, time_at, out, issued, over, ended}
 use Rattle.run_state.specs.Quiet.{kept_cancels}
 use Rattle.run_core.specs.Core.{CoreValue, slots_given}
-use Rattle.run_core.specs.Steps.{HasSources, HasLock, HasColumns}
+use Rattle.run_lists.specs.Sources.{HasSources}
+use Rattle.run_lists.specs.Holders.{HasLock}
+use Rattle.run_core.specs.Steps.{HasColumns}
 
 -- no line is out
 abbrev pub NothingOut : CoreValue → Type 0
@@ -39,9 +41,9 @@ pub record IsStill (old new : CoreValue) : Type 0 where
   pub run : new.run ≡ old.run
   pub handles : new.handles ≡ old.handles
 
--- what a line needs besides its sources, by the ends that are kept of them: they cancel it, or its reservation is open to it and its columns are at home
+-- what a line needs besides its sources, by the ends that are kept of them: they cancel it, or its reservation and its columns are open to it
 abbrev pub IsFreeSoFar : GraphValue → Run → ℕ → Type 0
-IsFreeSoFar g run i = (kept_cancels g run.stages i ≡ true) ⊎ (HasLock g run.holders i × HasColumns g run.places i)
+IsFreeSoFar g run i = (kept_cancels g run.stages i ≡ true) ⊎ (HasLock g run.holders i × HasColumns g run i)
 
 -- a line that can be taken
 pub record CanBeTaken (g : GraphValue) (run : Run) (i : ℕ) : Type 0 where

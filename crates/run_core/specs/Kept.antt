@@ -1,27 +1,17 @@
 -- How what the code keeps shows a core.
-use Rattle.std.specs.Prelude.{◌≡◌, ℕ, ◌+◌, Bool, List, [], ◌∷◌, length, map, Option, Some, None, slice_index_or, slice_set}
-use Rattle.std.specs.Option.{option_map_or}
-use Rattle.index_spaces.specs.declared.Op.{Op}
+use Rattle.std.specs.Prelude.{◌≡◌, ℕ, ◌+◌, Bool, List, [], ◌∷◌, length, map, Option, Some, None, slice_set}
 use Rattle.basics.specs.Lists.{numbers_below}
 use Rattle.index_spaces.specs.Column.{ColumnValue}
-use Rattle.graph_terms.specs.declared.verb.Verb.{Verb}
-use Rattle.graph_terms.specs.declared.verb.Verb.TheVariants.{Release}
-use Rattle.graph_terms.specs.Graph.{GraphValue, columns, column_space, verb_at}
+use Rattle.graph_terms.specs.Graph.{GraphValue, columns, column_space}
 use Rattle.graph_terms.specs.declared.outcome.End.{End}
-use Rattle.run_state.specs.Run.{LineStage, Unissued, Issued, Out, Ended, Place, Home, Had, Run, stage_at, end_so_far}
-use Rattle.run_state.specs.WholeLine.{lock_of, all_back, columns_for, arrived_with, arrival_by, arrival_for, freed_lock, freed_with}
+use Rattle.run_state.specs.Run.{LineStage, Place, Home, Had, Run}
+use Rattle.run_state.specs.WholeLine.{all_back, columns_for, arrived_with, arrival_for, freed_with}
+use Rattle.lent_columns.specs.Lendings.{SharedValue, column_in}
 use Rattle.run_core.specs.Core.{CoreValue}
-use Rattle.run_core.specs.Events.{EventsValue}
-use Rattle.run_core.specs.Holders.{holders_by}
+use Rattle.run_lists.specs.Stages.{shown_stage, ends_so_far}
+use Rattle.run_lists.specs.Events.{EventsValue}
+use Rattle.run_lists.specs.Holders.{holders_by, frees}
 use Rattle.run_parts.specs.declared.progress.Progress.{Progress}
-use Rattle.run_parts.specs.declared.progress.Progress.TheVariants as progress
-
--- how far a line has come
-abbrev pub shown_stage : Progress → LineStage
-shown_stage progress.Unissued = Unissued
-shown_stage progress.Issued = Issued
-shown_stage progress.Out = Out
-shown_stage (progress.Ended x) = Ended x
 
 -- where the columns are
 abbrev pub place_of : Option ColumnValue → ℕ → Place
@@ -32,11 +22,6 @@ abbrev pub places_of : List (Option ColumnValue) → List ℕ → List Place
 places_of [] takers = []
 places_of (x ∷ xs) [] = []
 places_of (x ∷ xs) (t ∷ ts) = place_of x t ∷ places_of xs ts
-
--- the lines that took the columns last, once a line takes these
-abbrev pub takers_with : List ℕ → ℕ → List ℕ → List ℕ
-takers_with takers i [] = takers
-takers_with takers i (c ∷ cs) = takers_with (slice_set takers c i) i cs
 
 -- WHAT HAS HAPPENED, by the lines that have ended, in the order in which they did: their times, on which columns they were put back, which of them arrived, and which freed a reservation
 pub record Past : Type 0 where
@@ -54,21 +39,6 @@ no_past g = record {
   arrived = [];
   freed = [];
 }
-
--- what a release frees, where lines ended so
-abbrev pub frees_as : GraphValue → (ℕ → End) → Verb → Option (ℕ × ℕ)
-frees_as g ends (Release q) = freed_lock q (ends q) (lock_of g q)
-frees_as g ends _ = None
-
-abbrev pub frees : GraphValue → (ℕ → End) → ℕ → Option (ℕ × ℕ)
-frees g ends i = option_map_or (frees_as g ends) (verb_at g i) None
-
--- the ends that the run keeps, and what a release frees by them
-abbrev pub ends_so_far : List LineStage → ℕ → End
-ends_so_far stages i = end_so_far (stage_at stages i)
-
-abbrev pub frees_in : GraphValue → List LineStage → ℕ → Option (ℕ × ℕ)
-frees_in g stages i = frees g (ends_so_far stages) i
 
 -- one line more, where lines ended so
 abbrev pub with_line : GraphValue → (ℕ → End) → Past → ℕ → Past
@@ -100,22 +70,19 @@ run_by past stages places values holders = record {
   freed = past.freed;
 }
 
--- what a line brings to a phase, if it is an arrival
-abbrev pub arrival_of : GraphValue → ℕ → Option (Op × ℕ × ℕ)
-arrival_of g i = option_map_or (arrival_by g) (verb_at g i) None
-
 -- the core that is shown
-abbrev pub shown_core : Bool → GraphValue → List Progress → EventsValue → List (Option ColumnValue) → List ℕ → List ℕ → List Bool → List ℕ → CoreValue
+abbrev pub shown_core : Bool → GraphValue → List Progress → EventsValue → SharedValue → List ℕ → List ℕ → List Bool → List ℕ → CoreValue
 shown_core hosted g stages events homes takers values holding trace = record {
   graph = g;
-  run = run_by (past_of g (ends_so_far (map shown_stage stages)) trace) (map shown_stage stages) (places_of homes takers) values (holders_by g holding);
+  run = run_by (past_of g (ends_so_far (map shown_stage stages)) trace) (map shown_stage stages) (places_of homes.columns takers) values (holders_by g holding);
   handles = events.handles;
   table = events.table;
   «hosted» = hosted;
+  lendings = homes.lendings;
 }
 
 -- what holds besides of the columns
-pub record AreKept (g : GraphValue) (homes : List (Option ColumnValue)) (takers : List ℕ) : Type 0 where
-  pub each_home : length homes ≡ length (columns g)
+pub record AreKept (g : GraphValue) (homes : SharedValue) (takers : List ℕ) : Type 0 where
+  pub each_home : length homes.columns ≡ length (columns g)
   pub each_taker : length takers ≡ length (columns g)
-  pub spaces : (c : ℕ) (x : ColumnValue) → slice_index_or homes c None ≡ Some x → x.space ≡ column_space g c
+  pub spaces : (c : ℕ) (x : ColumnValue) → column_in homes c ≡ Some x → x.space ≡ column_space g c

@@ -1,8 +1,6 @@
-pub mod Events
+pub mod Readers
 pub mod Core
 pub mod Works
-pub mod Sources
-pub mod Holders
 pub mod Kept
 pub mod Steps
 pub mod Findings

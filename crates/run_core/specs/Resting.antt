@@ -3,7 +3,7 @@ use Rattle.std.specs.Prelude.{◌≡◌, ◌≤◌, [], length}
 use Rattle.std.specs.Vec.{vec_capacity}
 use Rattle.graph_terms.specs.Graph.{GraphValue}
 use Rattle.run_core.specs.Core.{CoreValue, IsCore}
-use Rattle.run_core.specs.Holders.{AreHeld}
+use Rattle.run_lists.specs.Holders.{AreHeld}
 use Rattle.run_core.specs.Kept.{shown_core, AreKept}
 use Rattle.run_core.specs.declared.run.rest.Resting.{Resting}
 

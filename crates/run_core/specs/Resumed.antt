@@ -1,5 +1,5 @@
 -- The state from which a core is resumed: what the states of the lines show, and the core that is in it.
-use Rattle.std.specs.Prelude.{◌≡◌, ◌≢◌, ◌<◌, ℕ, Bool, true, false, List, length, IsTrue, Option, Some, None, slice_index, filter_map}
+use Rattle.std.specs.Prelude.{◌≡◌, ◌≢◌, ◌<◌, ℕ, Bool, true, false, List, length, IsTrue, Option, Some, None, slice_index}
 use Rattle.index_spaces.specs.Column.{ColumnValue}
 use Rattle.graph_terms.specs.declared.outcome.End.{End}
 use Rattle.graph_terms.specs.declared.outcome.End.TheVariants.{Done}
@@ -18,8 +18,9 @@ use Rattle.run_parts.specs.declared.states.LineState.{LineState}
 use Rattle.run_parts.specs.LineEvents.{AreEvents}
 use Rattle.run_parts.specs.Shown.{state_at, LinesShow, HomesShow, PhasesShow}
 use Rattle.run_core.specs.Core.{CoreValue}
+use Rattle.run_core.specs.Readers.{no_lendings}
 
--- WHAT IS READ OF A STATE: how far the line has come, whether it has ended, its handle where it is issued
+-- WHAT IS READ OF A STATE: how far the line has come, whether it has ended, and the value of a phase
 abbrev pub progress_by : Stage → End → Progress
 progress_by stages.Unissued x = progress.Unissued
 progress_by stages.Issued x = progress.Issued
@@ -37,18 +38,6 @@ stage_is_over stages.Ended = true
 
 abbrev pub over_at : List LineState → ℕ → Bool
 over_at lines i = stage_is_over (state_at lines i).stage
-
-abbrev pub handle_by : Stage → Handle → Option Handle
-handle_by stages.Unissued h = None
-handle_by stages.Issued h = Some h
-handle_by stages.Out h = Some h
-handle_by stages.Ended h = Some h
-
-abbrev pub handle_of_issued : LineState → Option Handle
-handle_of_issued s = handle_by s.stage s.handle
-
-abbrev pub issued_handles : List LineState → List Handle
-issued_handles lines = filter_map handle_of_issued lines
 
 abbrev pub value_or_zero : Option ℕ → ℕ
 value_or_zero None = 0
@@ -87,6 +76,7 @@ pub record InState (g : GraphValue) (run : Run) (handles : List Handle) (table :
   pub handled : c.handles ≡ handles
   pub tabled : c.table ≡ table
   pub unhosted : c.hosted ≡ false
+  pub unlent : c.lendings ≡ no_lendings g
   pub stages : c.run.stages ≡ run.stages
   pub times : c.run.times ≡ run.times
   pub clock : c.run.clock ≡ run.clock

@@ -1,21 +1,25 @@
 -- What each call of a core does.
-use Rattle.std.specs.Prelude.{◌≡◌, ◌≢◌, ℕ, ◌<◌, ◌≤◌, ◌⊎◌, true, false, List, [], ◌∷◌, ◌++◌, length, IsTrue, Some, None, slice_get, slice_index_or}
+use Rattle.std.specs.Prelude.{◌≡◌, ◌≢◌, ℕ, ◌<◌, ◌⊎◌, true, false, List, [], ◌∷◌, ◌++◌, length, Option, Some, None, slice_get, slice_index_or}
 use Rattle.graph_terms.specs.declared.outcome.End.{End}
 use Rattle.graph_terms.specs.declared.outcome.End.TheVariants.{Done, Faulted, Cancelled, Waiting}
 use Rattle.graph_terms.specs.Graph.{GraphValue, never_comes}
-use Rattle.graph_terms.specs.Reservations.{Acquires, both_shared}
+use Rattle.graph_terms.specs.Reservations.{Acquires}
 use Rattle.event_table.specs.declared.handle.Handle.{Handle}
 use Rattle.event_table.specs.declared.handle.Fate.{Fate}
 use Rattle.event_table.specs.declared.handle.Fate.TheVariants.{Ok, Poison}
 use Rattle.event_table.specs.EventMap.{no_event, created_at, placed_on, ended_with, next_handle, MayServe, IsFull, IsFree, Gives}
-use Rattle.run_state.specs.Run.{LineStage, Issued, Place, Had, Run, is_listed, stage_at, place_at, list_at, ended}
-use Rattle.run_state.specs.Sound.{AccessesColumn, IsOpenTo}
+use Rattle.run_state.specs.Run.{Issued, Place, Had, Run, stage_at, place_at}
+use Rattle.run_state.specs.Sound.{AccessesColumn}
+use Rattle.run_state.specs.Sharing.{ChangesColumn, take_sharing}
 use Rattle.run_state.specs.Moves.{issue, claim}
 use Rattle.run_state.specs.Quiet.{kept_cancels}
-use Rattle.run_state.specs.WholeLine.{column_list, take_whole, put_back_whole}
-use Rattle.run_parts.specs.LineEvents.{WaitsFor}
+use Rattle.run_state.specs.WholeLine.{column_list, put_back_whole}
 use Rattle.run_parts.specs.Shown.{stage_of}
+use Rattle.lent_columns.specs.Lendings.{Lending}
+use Rattle.run_lists.specs.Sources.{HasSources, IsLeastLeft}
+use Rattle.run_lists.specs.Holders.{HasLock, IsKeptOut}
 use Rattle.run_core.specs.Core.{CoreValue}
+use Rattle.run_core.specs.Readers.{IsReading, SharesTaken, lendings_left}
 use Rattle.run_core.specs.Works.{WorkValue, FinishedValue, IsWork, cells_in}
 use Rattle.run_parts.specs.declared.answers.Issue.{Issue as IssueAnswer}
 use Rattle.run_parts.specs.declared.answers.Issue.TheVariants as issues
@@ -32,6 +36,7 @@ with_issue c h = record {
   handles = c.handles ++ h ∷ [];
   table = created_at c.table h.slot;
   hosted = c.hosted;
+  lendings = c.lendings;
 }
 
 -- a line is left to issue
@@ -45,48 +50,39 @@ Issues old new issues.NoSlot = IsLeft old × IsFull old.table × (new ≡ old)
 Issues old new issues.All = (length old.handles ≡ length old.graph.lines) × (new ≡ old)
 Issues old new issues.Other = ⊥
 
--- ATTEMPTING. j is the least line that i waits for and that has not ended
-pub record IsLeastLeft (g : GraphValue) (stages : List LineStage) (i j : ℕ) : Type 0 where
-  pub waits : WaitsFor g i j
-  pub left : ended stages j ≡ false
-  pub least : (k : ℕ) → WaitsFor g i k → ended stages k ≡ false → j ≤ k
-
--- all lines that i waits for have ended
-abbrev pub HasSources : GraphValue → List LineStage → ℕ → Type 0
-HasSources g stages i = (j : ℕ) → WaitsFor g i j → ended stages j ≡ true
-
--- an issued line that comes and whose sources have ended
+-- ATTEMPTING. An issued line that comes and whose sources have ended
 pub record IsDue (g : GraphValue) (run : Run) (i : ℕ) : Type 0 where
   pub is_issued : stage_at run.stages i ≡ Issued
   pub comes : never_comes g i ≡ false
   pub sources : HasSources g run.stages i
 
--- its reservation, where it acquires one, is open to it
-abbrev pub HasLock : GraphValue → List (List ℕ) → ℕ → Type 0
-HasLock g holders i = (l : ℕ) → Acquires g i l → IsOpenTo g holders l i
-
--- a holder of the reservation keeps the line out: the line or the holder is exclusive
-abbrev pub IsKeptOut : GraphValue → List (List ℕ) → ℕ → ℕ → Type 0
-IsKeptOut g holders l i = (k : ℕ) × IsTrue (is_listed (list_at holders l) k) × (both_shared g i k ≡ false)
-
--- its columns are at home
+-- a column is at home
 abbrev pub IsAtHome : List Place → ℕ → Type 0
 IsAtHome places c = (taker : ℕ) → place_at places c ≢ Had taker
 
-abbrev pub HasColumns : GraphValue → List Place → ℕ → Type 0
-HasColumns g places i = (c : ℕ) → AccessesColumn g i c → IsAtHome places c
+-- nothing keeps the line from a column: it is at home, and if the line may change it no line reads it
+abbrev pub IsOpenFor : GraphValue → Run → ℕ → ℕ → Type 0
+IsOpenFor g run i c = IsAtHome run.places c × (ChangesColumn g i c → (k : ℕ) → IsReading g run.stages k c → ⊥)
 
--- c is the first of its columns that is out
-pub record IsFirstOut (g : GraphValue) (places : List Place) (i c : ℕ) : Type 0 where
+abbrev pub HasColumns : GraphValue → Run → ℕ → Type 0
+HasColumns g run i = (c : ℕ) → AccessesColumn g i c → IsOpenFor g run i c
+
+-- another line that may change the column has it, or this line may change it and one that reads it is out
+abbrev pub IsColumnBusy : GraphValue → Run → ℕ → ℕ → Type 0
+IsColumnBusy g run i c = ((k : ℕ) × (place_at run.places c ≡ Had k)) ⊎ (ChangesColumn g i c × (k : ℕ) × IsReading g run.stages k c)
+
+-- c is the first of its columns that is busy so
+pub record IsFirstOut (g : GraphValue) (run : Run) (i c : ℕ) : Type 0 where
   pub place : ℕ
   pub column : slice_get (column_list g i) place ≡ Some c
-  pub is_out : IsAtHome places c → ⊥
-  pub before : (k d : ℕ) → k < place → slice_get (column_list g i) k ≡ Some d → IsAtHome places d
+  pub is_out : IsOpenFor g run i c → ⊥
+  pub why : IsColumnBusy g run i c
+  pub before : (k d : ℕ) → k < place → slice_get (column_list g i) k ≡ Some d → IsOpenFor g run i d
 
 -- why a line that is due and won't be cancelled can't be taken
 abbrev pub IsHeldBy : GraphValue → Run → ℕ → Thing → Type 0
 IsHeldBy g run i (things.Lock l) = Acquires g i l × IsKeptOut g run.holders l i
-IsHeldBy g run i (things.Column c) = HasLock g run.holders i × IsFirstOut g run.places i c
+IsHeldBy g run i (things.Column c) = HasLock g run.holders i × IsFirstOut g run i c
 
 -- nothing changes but that the line is placed on the handle of j, where j has one and the line is free
 pub record StandsBy (old new : CoreValue) (i j : ℕ) : Type 0 where
@@ -97,12 +93,17 @@ pub record StandsBy (old new : CoreValue) (i j : ℕ) : Type 0 where
 
 -- the line is out, and this is its work. One that its sources cancel, by the ends that are kept of them, takes nothing
 abbrev pub with_run : CoreValue → Run → CoreValue
-with_run c run = record { graph = c.graph; «run» = run; handles = c.handles; table = c.table; hosted = c.hosted }
+with_run c run = record { graph = c.graph; «run» = run; handles = c.handles; table = c.table; hosted = c.hosted; lendings = c.lendings }
+
+abbrev pub with_lendings : CoreValue → List (Option Lending) → CoreValue
+with_lendings c lendings = record { graph = c.graph; run = c.run; handles = c.handles; table = c.table; hosted = c.hosted; «lendings» = lendings }
 
 pub record Takes (old new : CoreValue) (w : WorkValue) : Type 0 where
   pub due : IsDue old.graph old.run w.line
   pub claimed : kept_cancels old.graph old.run.stages w.line ≡ true → new ≡ with_run old (claim old.run w.line)
-  pub taken : kept_cancels old.graph old.run.stages w.line ≡ false → HasLock old.graph old.run.holders w.line × HasColumns old.graph old.run.places w.line × (new ≡ with_run old (take_whole old.graph old.run w.line))
+  pub taken : kept_cancels old.graph old.run.stages w.line ≡ false → HasLock old.graph old.run.holders w.line × HasColumns old.graph old.run w.line
+      × (lendings : List (Option Lending)) × SharesTaken old.graph w.line old.lendings lendings
+      × (new ≡ with_lendings (with_run old (take_sharing old.graph old.run w.line)) lendings)
   pub work : IsWork new w
 
 -- what an attempt answers, and what it does
@@ -131,8 +132,10 @@ with_end c f = record {
   handles = c.handles;
   table = ended_with c.table (handle_at c f.line) (fate_for f.ends);
   hosted = c.hosted;
+  lendings = lendings_left c.graph f.line f.ends c.lendings;
 }
 
 -- WAKING. A line that was caught is given, and is free again
 abbrev pub Wakes : CoreValue → ℕ → CoreValue → Type 0
 Wakes old i new = Gives old.table i new.table × (new.graph ≡ old.graph) × (new.run ≡ old.run) × (new.handles ≡ old.handles) × (new.hosted ≡ old.hosted)
+    × (new.lendings ≡ old.lendings)

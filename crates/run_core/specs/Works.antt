@@ -2,7 +2,7 @@
 use Rattle.std.specs.Prelude.{◌≡◌, ◌≢◌, ℕ, ◌↔◌, Bool, true, false, cond, List, [], Some, None}
 use Rattle.std.specs.Option.{option_map_or}
 use Rattle.index_spaces.specs.Column.{ColumnValue}
-use Rattle.index_spaces.specs.Held.{held_at}
+use Rattle.index_spaces.specs.Held.{HeldList, held_at, lending_at}
 use Rattle.graph_terms.specs.declared.outcome.End.{End}
 use Rattle.graph_terms.specs.declared.outcome.End.TheVariants.{Done, Faulted, Cancelled, Waiting}
 use Rattle.graph_terms.specs.declared.outcome.Verdict.{Verdict}
@@ -11,7 +11,9 @@ use Rattle.graph_terms.specs.Graph.{column_space}
 use Rattle.graph_meaning.specs.Effect.{Effects, zero_cells}
 use Rattle.graph_meaning.specs.Evaluation.{end_with, column_of}
 use Rattle.run_state.specs.Run.{Out, stage_at, list_at}
-use Rattle.run_state.specs.Sound.{AccessesColumn}
+use Rattle.run_state.specs.Sound.{AccessesColumn, OnlyReads}
+use Rattle.run_state.specs.Sharing.{ChangesColumn}
+use Rattle.lent_columns.specs.Lendings.{lending_in, number_of}
 use Rattle.run_state.specs.Work.{cells_now_with, put_cells_with}
 use Rattle.run_state.specs.Verdicts.{effect_by}
 use Rattle.run_core.specs.Core.{CoreValue, TellsOf, MayFault}
@@ -20,20 +22,23 @@ use Rattle.run_core.specs.Core.{CoreValue, TellsOf, MayFault}
 pub record WorkValue : Type 0 where
   pub line : ℕ
   pub is_cancelled : Bool
-  pub held : List (ℕ × ColumnValue)
+  pub held : HeldList
 
 -- the line, its end, and the columns that it gives back
 pub record FinishedValue : Type 0 where
   pub line : ℕ
   pub ends : End
-  pub held : List (ℕ × ColumnValue)
+  pub held : HeldList
 
--- columns held of a line: exactly those that it accesses, each as a function gives it
-pub record HoldsColumns (c : CoreValue) (i : ℕ) (held : List (ℕ × ColumnValue)) (column : ℕ → ColumnValue) : Type 0 where
+-- columns held of a line: exactly those that it accesses, each as a function gives it. Those that it may change are columns of its own, of the
+-- others it has a share of the lending that the core has
+pub record HoldsColumns (c : CoreValue) (i : ℕ) (held : HeldList) (column : ℕ → ColumnValue) : Type 0 where
   pub has : (k : ℕ) → AccessesColumn c.graph i k → held_at held k ≡ Some (column k)
   pub only : (k : ℕ) (x : ColumnValue) → held_at held k ≡ Some x → AccessesColumn c.graph i k
+  pub own : (k : ℕ) → ChangesColumn c.graph i k → lending_at held k ≡ None
+  pub shares : (k : ℕ) → OnlyReads c.graph i k → lending_at held k ≡ number_of (lending_in c.lendings k)
 
-abbrev pub HoldsNothing : List (ℕ × ColumnValue) → Type 0
+abbrev pub HoldsNothing : HeldList → Type 0
 HoldsNothing held = (k : ℕ) → held_at held k ≡ None
 
 -- a column as the lines leave it that were put back on it
@@ -89,5 +94,5 @@ pub record KeepsWork (old new : CoreValue) (i : ℕ) : Type 0 where
   pub finished : (f : FinishedValue) → f.line ≡ i → IsFinished old f → IsFinished new f
 
 -- the cells of the columns that are held
-abbrev pub cells_in : List (ℕ × ColumnValue) → ℕ → List ℕ
+abbrev pub cells_in : HeldList → ℕ → List ℕ
 cells_in held k = option_map_or (λ (x : ColumnValue). x.cells) (held_at held k) []

@@ -3,13 +3,7 @@
 #![tactic(auto)]
 
 mod answers;
-mod columns;
-mod events;
-mod holders;
-mod lists;
-mod phases;
 mod run;
-mod sources;
 mod work;
 
 pub use answers::Attempt;

@@ -2,20 +2,21 @@
 
 ghost use Rattle.std.specs.Prelude.{◌≡◌, ◌≤◌, IfOk};
 
-use crate::columns::Columns;
-use crate::events::LineEvents;
-use crate::holders::Holders;
-use crate::lists::filled_within;
-use crate::phases::first_values;
 use checked_graph::Checked;
 use event_table::EventTable;
 use event_table::limits::MAX_SLOTS;
 use graph_meaning::laws::needs_are_one;
 use graph_model::graph::Graph;
 use index_spaces::NoMemory;
+use lent_columns::shared_homes::SharedHomes;
 use line_effects::homes::Homes;
+use run_lists::columns::Columns;
+use run_lists::events::LineEvents;
+use run_lists::holders::Holders;
+use run_lists::lists::filled_within;
+use run_lists::phases::first_values;
 use run_parts::{OutcomeRoom, Progress, RunRoom, last_gen_for};
-use run_state::laws::{start_is_at_rest, start_is_sound};
+use run_state::laws::{sharing_starts_at_rest, start_is_sound};
 use std::alloc::Global;
 use std::marker::Model;
 
@@ -52,7 +53,7 @@ impl<'g> Model for Core<'g> {
     ghost use Rattle.std.specs.Vec.{vec_capacity};
     ghost use Rattle.run_core.specs.Core.{CoreValue, IsCore};
     ghost use Rattle.run_core.specs.Kept.{shown_core, AreKept};
-    ghost use Rattle.run_core.specs.Holders.{AreHeld};
+    ghost use Rattle.run_lists.specs.Holders.{AreHeld};
 
     ghost Value = { CoreValue };
 
@@ -119,7 +120,7 @@ impl<'g> Core<'g> {
         ensures nothing_out { IfOk result (λ core. NothingOut core) }
     {
         start_is_sound();
-        start_is_at_rest();
+        sharing_starts_at_rest();
         needs_are_one();
         let graph = checked.graph();
         let _ = checked.need();
@@ -138,6 +139,7 @@ impl<'g> Core<'g> {
             holding,
             trace,
             takers,
+            lent,
             held,
             outcome,
         } = room;
@@ -146,7 +148,7 @@ impl<'g> Core<'g> {
             stages: filled_within(stages, Progress::Unissued, lines as usize),
             events: LineEvents::of_free(table, handles, busy, lines),
             columns: Columns {
-                homes,
+                homes: SharedHomes::of(homes, lent, columns),
                 takers: filled_within(takers, 0, columns as usize),
             },
             values: first_values(graph, values),

@@ -11,11 +11,11 @@ use graph_terms::outcome::{End, Verdict};
 use graph_terms::verb::Verb;
 use index_spaces::held::Held;
 use line_effects::effects::apply;
-use run_state::laws::{work_gives_cells, work_is_as_evaluated};
+use run_state::laws::{sight_gives_cells, sight_is_as_evaluated};
 use std::marker::Model;
 
-/// A line that was taken, with the columns that it accesses, moved out of the core. A line that is
-/// cancelled has none.
+/// A line that was taken, with the columns that it may change, moved out of the core, and shares of those
+/// that it only reads. A line that is cancelled has none.
 #[derive(Drop)]
 pub struct Work {
     line: u32,
@@ -110,8 +110,8 @@ impl Work {
         ensures said { self.is_cancelled ≡ false → line_passes is_call graph.now self.line ≡ true → result.ends ≡ end_by said }
         ensures finished { (c : CoreValue) → IsCore c → (c.hosted ≡ false → said ≡ Fine) → c.graph ≡ graph.now → IsWork c self → IsFinished c result }
     {
-        work_is_as_evaluated();
-        work_gives_cells();
+        sight_is_as_evaluated();
+        sight_gives_cells();
         let Work {
             line,
             is_cancelled,

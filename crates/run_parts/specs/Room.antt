@@ -13,6 +13,7 @@ pub record HasRoom (g : GraphValue) (r : RunRoom) : Type 0 where
   pub holding : length g.lines ≤ vec_capacity r.holding
   pub trace : length g.lines ≤ vec_capacity r.trace
   pub takers : length (columns g) ≤ vec_capacity r.takers
+  pub lent : length (columns g) ≤ vec_capacity r.lent
   pub held : length (locks g) ≤ vec_capacity r.held
   pub ends : (r.outcome.ends.items ≡ []) × (length g.lines ≤ vec_capacity r.outcome.ends)
   pub answers : (r.outcome.answers.items ≡ []) × (length g.lines ≤ vec_capacity r.outcome.answers)

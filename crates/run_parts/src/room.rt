@@ -11,6 +11,7 @@ use graph_model::graph::Graph;
 use graph_terms::outcome::{Answer, End};
 use index_spaces::NoMemory;
 use index_spaces::room::with_room;
+use lent_columns::lent::Lent;
 use std::alloc::Global;
 
 /// Room for the lists of the outcome.
@@ -54,6 +55,8 @@ pub struct RunRoom {
     pub trace: Vec<u32>,
     /// By column: the line that took it last.
     pub takers: Vec<u32>,
+    /// By column: its lending, where it is lent.
+    pub lent: Vec<Option<Lent>>,
     /// By reservation: how it is held.
     pub held: Vec<LockState>,
     pub outcome: OutcomeRoom,
@@ -66,13 +69,16 @@ impl RunRoom {
         ensures empty { IfOk result (λ r. (r.handles.items ≡ []) × (r.trace.items ≡ [])) }
     {
         let lines = graph.lines() as usize;
+        // First the values, then the handles: a run in words brings its own list of these, and what was let
+        // go before then serves for a list that is written.
+        let values = with_room(alloc, lines)?;
         let stages = with_room(alloc, lines)?;
         let handles = with_room(alloc, lines)?;
         let busy = with_room(alloc, lines)?;
-        let values = with_room(alloc, lines)?;
         let holding = with_room(alloc, lines)?;
         let trace = with_room(alloc, lines)?;
         let takers = with_room(alloc, graph.columns() as usize)?;
+        let lent = with_room(alloc, graph.columns() as usize)?;
         let held = with_room(alloc, graph.locks() as usize)?;
         let outcome = OutcomeRoom::reserve(alloc, lines)?;
         Ok(RunRoom {
@@ -83,6 +89,7 @@ impl RunRoom {
             holding,
             trace,
             takers,
+            lent,
             held,
             outcome,
         })

@@ -1,10 +1,11 @@
 -- What is left of a report's parts at a place, line by line.
-use Rattle.std.proofs.Common.{◌≡◌, ℕ, zero, suc, ◌+◌, ◌-◌, ◌<◌, ◌≤◌, List, [], ◌∷◌, ◌++◌, length, take, drop, map, refl, sym, ◌∙◌, ap, append_assoc, append-nil, length-append, get_or, subst, arith}
+use Rattle.std.proofs.Common.{◌≡◌, ℕ, zero, suc, ◌+◌, ◌-◌, ◌<◌, ◌≤◌, List, [], ◌∷◌, ◌++◌, length, take, drop, map, refl, sym, ◌∙◌, ap, append_assoc, append-nil, length-append, get_or, take_all, take-add, subst, arith}
 use Rattle.std.specs.Prelude.{Option, Some, None, slice_get, slice_index, codes, decimal}
 use Rattle.std.specs.List.{flat_map, join_with_byte}
 use Rattle.std.proofs.lemmas.Option.{none-some, same_Some}
 use Rattle.std.specs.Option.{option_map, option_map_or}
-use Rattle.std.proofs.lemmas.List.{drop-drop, drop_more}
+use Rattle.std.proofs.lemmas.List.{drop-drop, drop_more, length-drop}
+use Rattle.std.proofs.lemmas.Grind.{flat_map-append}
 use Rattle.std.proofs.lemmas.List.FromFn.{length-range_with_len}
 use Rattle.index_spaces.specs.Space.{interval_points, points, space_size, AscendAbove, IsSpace}
 use Rattle.index_spaces.specs.Column.{ColumnValue}
@@ -14,7 +15,7 @@ use Rattle.graph_terms.specs.declared.verb.Line.{Line}
 use Rattle.graph_terms.specs.Graph.{GraphValue, is_phase}
 use Rattle.graph_terms.specs.declared.decl.ColumnInfo.{ColumnInfo}
 use Rattle.graph_terms.specs.Spelling.{column_name, interval_word}
-use Rattle.run_report.specs.Report.{end_word, answer_word, op_rest, op_text, op_texts, phase_text, phase_texts, interval_front, interval_text, cells_texts, column_texts}
+use Rattle.run_report.specs.Report.{op_text, op_texts, phase_text, phase_texts, interval_front, interval_text, cells_text, cells_texts, column_texts}
 
 -- the rest of a list at a place that has an element
 pub rest_at : {X : Type 0} (xs : List X) (i : ℕ) (x : X) → slice_get xs i ≡ Some x → drop i xs ≡ x ∷ drop (i + 1) xs
@@ -53,16 +54,6 @@ columns_left g xs c x h = ap (column_texts g c) (rest_at xs c x h)
 pub columns_over : (g : GraphValue) (xs : List ColumnValue) (c : ℕ) → length xs ≤ c → column_texts g c (drop c xs) ≡ []
 columns_over g xs c h = ap (column_texts g c) (rest_over xs c h)
 
--- the line of an operation, in its three parts
-op_parts : (l : Line) (e : End) (a : Answer) → op_text l e a ≡ codes "op " ++ (l.name ++ op_rest e a)
-op_parts l e a =
-    ap (λ x. codes "op " ++ x)
-    (append_assoc l.name (32 ∷ (end_word e ++ 32 ∷ answer_word a)) (10 ∷ []) ∙ ap (λ x. l.name ++ 32 ∷ x) (append_assoc (end_word e) (32 ∷ answer_word a) (10 ∷ [])))
-
--- the three pieces that are written are that line
-pub op_told : (l : Line) (e : End) (a : Answer) (name rest : List ℕ) → name ≡ l.name → rest ≡ op_rest e a → codes "op " ++ (name ++ rest) ≡ op_text l e a
-op_told l e a name rest n r = ap (λ x. codes "op " ++ (x ++ rest)) n ∙ (ap (λ x. codes "op " ++ (l.name ++ x)) r ∙ sym (op_parts l e a))
-
 -- words after a first one
 joined_more : (w : List ℕ) (ws : List (List ℕ)) → join_with_byte 32 (w ∷ ws) ≡ w ++ flat_map (λ v. 32 ∷ v) ws
 joined_more w [] = sym (append-nil w)
@@ -95,13 +86,42 @@ pub cells_over : (name : List ℕ) (is : List (ℕ × ℕ)) (cells : List ℕ) (
 cells_over name is cells k h = ap (λ u. cells_texts name u cells) (rest_over is k h)
 
 -- the cells from a rank on
-pub cells_next : (cells : List ℕ) (rank end cell : ℕ) → cell ≡ slice_index cells rank → rank < end → end ≤ length cells →
+cells_next : (cells : List ℕ) (rank end cell : ℕ) → cell ≡ slice_index cells rank → rank < end → end ≤ length cells →
     flat_map (λ v. 32 ∷ decimal v) (take (end - rank) (drop rank cells)) ≡ (32 ∷ decimal cell) ++ flat_map (λ v. 32 ∷ decimal v) (take (end - (rank + 1)) (drop (rank + 1) cells))
 cells_next cells rank end cell e h k =
     let n : end - rank ≡ suc (end - (rank + 1)) = omega arith in
     ap (λ u. flat_map (λ v. 32 ∷ decimal v) (take (end - rank) u)) (drop_more cells rank 0 (omega arith))
     ∙ (ap (λ m. flat_map (λ v. 32 ∷ decimal v) (take m (get_or cells rank 0 ∷ drop (rank + 1) cells))) n
     ∙ ap (λ v. (32 ∷ decimal v) ++ flat_map (λ w. 32 ∷ decimal w) (take (end - (rank + 1)) (drop (rank + 1) cells))) (sym e))
+
+-- nothing stands behind the last cell
+pub no_cells : (cells text : List ℕ) (end most : ℕ) → length text ≤ most → drop most text ≡ cells_text cells end end
+no_cells cells text end most h =
+    let n : 0 ≡ end - end = omega arith in
+    rest_over text most h ∙ ap (λ m. flat_map (λ v. 32 ∷ decimal v) (take m (drop end cells))) n
+
+-- the cells from the one before a rank on
+pub cells_before : (cells : List ℕ) (rank end cell : ℕ) → cell ≡ slice_index cells (rank - 1) → 0 < rank → rank ≤ end → end ≤ length cells →
+    cells_text cells (rank - 1) end ≡ (32 ∷ decimal cell) ++ cells_text cells rank end
+cells_before cells rank end cell e some h k =
+    let n : (rank - 1) + 1 ≡ rank = omega arith in
+    cells_next cells (rank - 1) end cell e (omega arith) k ∙ ap (λ m. (32 ∷ decimal cell) ++ cells_text cells m end) n
+
+-- the cells of two parts
+cells_split : (cells : List ℕ) (rank next end : ℕ) → rank ≤ next → next ≤ end → cells_text cells rank end ≡ cells_text cells rank next ++ cells_text cells next end
+cells_split cells rank next end h k =
+    let n : end - rank ≡ (next - rank) + (end - next) = omega arith in
+    let m : rank + (next - rank) ≡ next = omega arith in
+    ap (λ j. flat_map (λ v. 32 ∷ decimal v) (take j (drop rank cells))) n
+    ∙ (ap (flat_map (λ v. 32 ∷ decimal v)) (take-add (next - rank) (end - next) (drop rank cells))
+    ∙ (flat_map-append (λ v. 32 ∷ decimal v) (take (next - rank) (drop rank cells)) (take (end - next) (drop (next - rank) (drop rank cells)))
+    ∙ ap (λ ys. cells_text cells rank next ++ flat_map (λ v. 32 ∷ decimal v) (take (end - next) ys)) (drop-drop (next - rank) rank cells ∙ ap (λ j. drop j cells) m)))
+
+-- the cells from a rank on, of which a piece has those up to another one
+pub cells_piece : (cells text : List ℕ) (rank next end start size : ℕ) → rank ≤ next → next ≤ end → length text ≤ start + size → drop start text ≡ cells_text cells rank next →
+    cells_text cells rank end ≡ take size (drop start text) ++ cells_text cells next end
+cells_piece cells text rank next end start size h k long bytes =
+    cells_split cells rank next end h k ∙ ap (λ ys. ys ++ cells_text cells next end) (sym (take_all size (drop start text) (omega (arith, length-drop start text)) ∙ bytes))
 
 -- the name of a column, by the names of its instance and its field
 pub column_named : (o : Option ColumnInfo) (inst field : List ℕ) → option_map (λ (x : ColumnInfo). x.inst) o ≡ Some inst → option_map (λ (x : ColumnInfo). x.field) o ≡ Some field →

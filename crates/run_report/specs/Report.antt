@@ -1,5 +1,5 @@
 -- The report of an outcome.
-use Rattle.std.specs.Prelude.{◌≡◌, ℕ, ◌+◌, Bool, true, false, List, [], ◌∷◌, ◌++◌, length, map, take, drop, Option, Some, None, codes, decimal}
+use Rattle.std.specs.Prelude.{◌≡◌, ℕ, ◌+◌, Bool, true, false, List, [], ◌∷◌, ◌++◌, ◌-◌, length, map, flat_map, take, drop, Option, Some, None, codes, decimal}
 use Rattle.index_spaces.specs.Space.{interval_points}
 use Rattle.index_spaces.specs.Column.{ColumnValue}
 use Rattle.graph_terms.specs.declared.outcome.Outcome.{Outcome}
@@ -35,6 +35,10 @@ abbrev pub op_texts : List Line → List End → List Answer → List ℕ
 op_texts (l ∷ ls) (e ∷ es) (a ∷ as') = op_text l e a ++ op_texts ls es as'
 op_texts _ _ _ = []
 
+-- the lines of the operations from place i on
+abbrev pub op_texts_from : List Line → List End → List Answer → ℕ → List ℕ
+op_texts_from ls es as' i = op_texts (drop i ls) (drop i es) (drop i as')
+
 abbrev pub value_word : Option ℕ → List ℕ
 value_word None = codes "-"
 value_word (Some v) = decimal v
@@ -55,6 +59,10 @@ interval_text name i cells = spelled (codes "cells" ∷ name ∷ interval_word i
 -- what stands before the cells in that line
 abbrev pub interval_front : List ℕ → ℕ × ℕ → List ℕ
 interval_front name i = codes "cells " ++ (name ++ 32 ∷ interval_word i)
+
+-- the cells of the points of the ranks from first up to end, each with a space before it
+abbrev pub cells_text : List ℕ → ℕ → ℕ → List ℕ
+cells_text cells first end = flat_map (λ v. 32 ∷ decimal v) (take (end - first) (drop first cells))
 
 -- the lines of a column's cells, one for each interval
 abbrev pub cells_texts : List ℕ → List (ℕ × ℕ) → List ℕ → List ℕ

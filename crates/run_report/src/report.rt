@@ -4,7 +4,7 @@ ghost use Rattle.std.specs.Prelude.{◌≡◌, ℕ, ◌<◌, ◌≤◌, length, 
 ghost use Rattle.realm_io.specs.Counts.{Rose};
 ghost use Rattle.realm_io.specs.Told.{with_more, TookPrefix};
 ghost use Rattle.graph_terms.specs.Spelling.{spelled, interval_word};
-ghost use Rattle.run_report.specs.Report.{FitsGraph, op_rest, op_text, op_texts, phase_text, phase_texts, interval_front, interval_text, cells_texts, column_texts, report, evaluation_report};
+ghost use Rattle.run_report.specs.Report.{FitsGraph, op_rest, op_text, op_texts, op_texts_from, phase_text, phase_texts, interval_front, interval_text, cells_text, cells_texts, column_texts, report, evaluation_report};
 ghost use Rattle.index_spaces.specs.Space.{space_size, IsSpace};
 ghost use Rattle.graph_terms.specs.Graph.{is_phase};
 ghost use Rattle.graph_meaning.specs.Evaluation.{outcome};
@@ -41,27 +41,80 @@ fn op_rest(end: End, answer: Answer) -> &'static [u8]
     }
 }
 
-/// Writes the line of an operation.
-fn put_op<K: Sink>(sink: &mut K, line: &Line, end: End, answer: Answer) -> Result<(), WriteFault>
-    ensures { Writes (K.state sink.old) (K.state sink.new) result (op_text line.now end answer) }
+/// How many bytes the line of an operation has at most: its name 63, and what stands around it 24.
+const OP: usize = 87;
+
+/// How many lines of operations are written in one piece.
+const OPS: u32 = 16;
+
+/// How many bytes these have at most.
+const OPS_SIZE: usize = 1_392;
+
+/// Puts a piece behind the bytes that a text has so far, and gives how many it has then.
+#[inline]
+fn add_piece(text: &mut [u8; OPS_SIZE], used: usize, piece: &[u8]) -> usize
+    requires { used + length piece.now ≤ OPS_SIZE }
+    ensures size { result ≡ used + length piece.now }
+    ensures bytes { take result text.new ≡ take used text.old ++ piece.now }
 {
-    put_bytes(sink, b"op ")?;
-    put_bytes(sink, line.name.bytes())?;
-    put_bytes(sink, op_rest(end, answer))
+    let end = used + piece.len();
+    text[used..end].copy_from_slice(piece);
+    end
 }
 
-/// Writes the lines of the operations.
+/// Puts the line of an operation behind the bytes that a text has so far, and gives how many it has then.
+fn add_op(text: &mut [u8; OPS_SIZE], used: usize, line: &Line, end: End, answer: Answer) -> usize
+    requires { used + OP ≤ OPS_SIZE }
+    ensures size { result ≤ used + OP }
+    ensures bytes { take result text.new ≡ take used text.old ++ op_text line.now end answer }
+{
+    let before = add_piece(text, used, b"op ");
+    let named = add_piece(text, before, line.name.bytes());
+    add_piece(text, named, op_rest(end, answer))
+}
+
+/// Puts the lines of the operations from `first` up to `end` into a text, and gives how many bytes they have.
+fn add_ops(
+    text: &mut [u8; OPS_SIZE],
+    graph: &Graph,
+    outcome: &Outcome,
+    first: u32,
+    end: u32,
+) -> usize
+    requires fits { FitsGraph graph.now outcome.now }
+    requires ordered { first ≤ end }
+    requires within { end ≤ length graph.now.lines }
+    requires few { end ≤ first + OPS }
+    ensures size { result ≤ OPS_SIZE }
+    ensures bytes { op_texts_from graph.now.lines outcome.now.ends outcome.now.answers first
+        ≡ take result text.new ++ op_texts_from graph.now.lines outcome.now.ends outcome.now.answers end }
+{
+    let mut used = 0;
+    for i in first..end {
+        used = add_op(
+            text,
+            used,
+            graph.line(i),
+            outcome.ends.at(i),
+            outcome.answers.at(i),
+        );
+    }
+    used
+}
+
+/// Writes the lines of the operations, several in one piece, since a report has one for each.
 fn put_ops<K: Sink>(sink: &mut K, graph: &Graph, outcome: &Outcome) -> Result<(), WriteFault>
     requires { FitsGraph graph.now outcome.now }
     ensures { Writes (K.state sink.old) (K.state sink.new) result (op_texts graph.now.lines outcome.now.ends outcome.now.answers) }
 {
-    for i in 0..graph.lines() {
-        put_op(
-            sink,
-            graph.line(i),
-            outcome.ends.at(i),
-            outcome.answers.at(i),
-        )?;
+    let lines = graph.lines();
+    let mut text = [0; OPS_SIZE];
+    let mut first = 0;
+    while first < lines {
+        let end = first + OPS.min(lines - first);
+        let size = add_ops(&mut text, graph, outcome, first, end);
+        put_bytes(sink, &text[..size])?;
+        first = end;
     }
     Ok(())
 }
@@ -119,27 +172,60 @@ fn put_interval_front<K: Sink>(
 /// How many bytes a cell and the space before it have at most.
 const CELL: usize = 21;
 
-/// Writes a cell and the space before it, in one piece, since there may be millions of them.
-fn put_cell<K: Sink>(sink: &mut K, text: &mut [u8; CELL], cell: u64) -> Result<(), WriteFault>
-    ensures { Writes (K.state sink.old) (K.state sink.new) result (32 ∷ decimal cell) }
+/// How many cells are written in one piece.
+const CELLS: u64 = 24;
+
+/// How many bytes these have at most.
+const CELLS_SIZE: usize = 504;
+
+/// Puts a cell and the space before it where the bytes that a text has so far begin, and gives where they begin then.
+#[inline]
+fn add_cell(text: &mut [u8; CELLS_SIZE], end: usize, cell: u64) -> usize
+    requires { (CELL ≤ end) × (end ≤ CELLS_SIZE) }
+    ensures start { (result ≤ end) × (end ≤ result + CELL) }
+    ensures bytes { drop result text.new ≡ (32 ∷ decimal cell) ++ drop end text.old }
 {
-    let start = write_digits(cell, text, CELL) - 1;
+    let start = write_digits(cell, text, end) - 1;
     text[start] = b' ';
-    put_bytes(sink, &text[start..])
+    start
 }
 
-/// Writes the cells of the points of these ranks, each with a space before it.
+/// Puts the cells of the points of these ranks, each with a space before it, at the end of a text, from the last one to the
+/// first, and gives where they begin.
+fn add_cells(text: &mut [u8; CELLS_SIZE], column: &Column, first: u64, end: u64) -> usize
+    requires ordered { first ≤ end }
+    requires within { end ≤ length column.now.cells }
+    requires full { length column.now.cells ≡ space_size column.now.space }
+    requires few { end ≤ first + CELLS }
+    ensures start { result ≤ CELLS_SIZE }
+    ensures bytes { drop result text.new ≡ cells_text column.now.cells first end }
+{
+    let _ = column.space().size();
+    let mut start = CELLS_SIZE;
+    let mut rank = end;
+    while rank > first {
+        rank -= 1;
+        start = add_cell(text, start, column.at(rank as u32));
+    }
+    start
+}
+
+/// Writes the cells of the points of these ranks, each with a space before it, several in one piece, since there may be
+/// millions of them.
 fn put_cells<K: Sink>(sink: &mut K, column: &Column, first: u64, end: u64) -> Result<(), WriteFault>
     requires ordered { first ≤ end }
     requires within { end ≤ length column.now.cells }
     requires full { length column.now.cells ≡ space_size column.now.space }
-    ensures { Writes (K.state sink.old) (K.state sink.new) result
-        (flat_map (λ v. 32 ∷ decimal v) (take (end - first) (drop first column.now.cells))) }
+    ensures { Writes (K.state sink.old) (K.state sink.new) result (cells_text column.now.cells first end) }
 {
     let _ = column.space().size();
-    let mut text = [0; CELL];
-    for rank in first..end {
-        put_cell(sink, &mut text, column.at(rank as u32))?;
+    let mut text = [0; CELLS_SIZE];
+    let mut rank = first;
+    while rank < end {
+        let next = rank + CELLS.min(end - rank);
+        let start = add_cells(&mut text, column, rank, next);
+        put_bytes(sink, &text[start..])?;
+        rank = next;
     }
     Ok(())
 }

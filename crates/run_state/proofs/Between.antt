@@ -76,7 +76,7 @@ column_back_leaves i c k xs run ne = record {
   back = λ d h. get_or-set_other run.back c d (k ∷ list_at run.back c) [] (other_column i c d run ne h);
 }
 
-all_back_other : (back : List (List ℕ)) (k : ℕ) (cs : List ℕ) (c : ℕ) → (is_listed cs c ≡ true → ⊥) → list_at (all_back back k cs) c ≡ list_at back c
+pub all_back_other : (back : List (List ℕ)) (k : ℕ) (cs : List ℕ) (c : ℕ) → (is_listed cs c ≡ true → ⊥) → list_at (all_back back k cs) c ≡ list_at back c
 all_back_other back k [] c none = refl
 all_back_other back k (d ∷ cs) c none = all_back_other (slice_set back d (k ∷ list_at back d)) k cs c (λ h. none (listed_there d c cs h))
     ∙ get_or-set_other back d c (k ∷ list_at back d) [] (λ e. none (subst (λ z. is_listed (z ∷ cs) c ≡ true) e (listed_here c cs)))

@@ -10,6 +10,7 @@ use Rattle.graph_meaning.specs.Evaluation.{end_with, changes_with, cells_of_line
 use Rattle.run_state.proofs.Verdicts.{keeps_to_accesses}
 use Rattle.run_state.specs.Run.{Place, Home, Had, Run, is_listed, stage_at, place_at, list_at, out, started, ended}
 use Rattle.run_state.specs.Sound.{AccessesColumn, home_cells_with, SoundColumnsWith, SoundWith}
+use Rattle.run_state.specs.Work.{put_cells_with}
 use Rattle.run_state.specs.Moves.{column_out, column_unused, column_back}
 use Rattle.run_state.proofs.Lists.{each_set, is_there, listed_here, listed_there, listed_cases, out_started, out_not_ended, ended_over}
 use Rattle.basics.proofs.ListFacts.{map_same}
@@ -56,20 +57,29 @@ module _ (lists : List (List ℕ)) (c i : ℕ) (there : c < length lists) where
   one_cases = each_set (λ d ks. (k : ℕ) → is_listed ks k ≡ true → ((d ≡ c) × (k ≡ i)) ⊎ (is_listed (list_at lists d) k ≡ true)) lists [] c (i ∷ list_at lists c) there
       (λ k h. elim (listed_cases i k (list_at lists c) h) [ inl e ↦ inl (refl, e) | inr r ↦ inr r ]) (λ d ne k h. inr h)
 
--- the cells of a column on which a line is put back are those of the lines put back and this one, in the evaluation's order
-pub put_back_cells : {does : Effects} {g : GraphValue} {run : Run} → SoundWith does g run → (c i : ℕ) → out run.stages i ≡ true → is_listed (list_at run.back c) i ≡ false →
-    (column_of g (cells_after (cells_of_lines_with does zero_cells g (is_listed (list_at run.back c))) (changes_with does zero_cells g i)) c).cells ≡ home_cells_with does g (i ∷ list_at run.back c) c
-put_back_cells {does} {g} {run} s c i h none =
+-- a cell of a column on which a line is put back is that of the lines put back and this one, in the evaluation's order
+pub cell_with_one : {does : Effects} {g : GraphValue} {run : Run} → SoundWith does g run → (c i : ℕ) → out run.stages i ≡ true →
+    is_listed (list_at run.back c) i ≡ false → (p : ℕ) →
+    cells_after (cells_of_lines_with does zero_cells g (is_listed (list_at run.back c))) (changes_with does zero_cells g i) c p
+    ≡ cells_of_lines_with does zero_cells g (is_listed (i ∷ list_at run.back c)) c p
+cell_with_one {does} {g} {run} s c i h none p =
     let begun : started run.stages i ≡ true = out_started (stage_at run.stages i) h in
     let t = turns_with does zero_cells g (length g.lines) i (started_ends s.graph s.accepted s.on_lines i begun) in
-    map_same (λ p. cells_after (cells_of_lines_with does zero_cells g (is_listed (list_at run.back c))) (changes_with does zero_cells g i) c p) (λ p. cells_of_lines_with does zero_cells g (is_listed (i ∷ list_at run.back c)) c p) (points (column_space g c))
-    (λ p. cell_is_put_back_with does zero_cells g s.accepted (keeps_to_accesses s.keeps) i t.0 t.1 (ended run.stages) (is_listed (list_at run.back c)) c p
+    cell_is_put_back_with does zero_cells g s.accepted (keeps_to_accesses s.keeps) i t.0 t.1 (ended run.stages) (is_listed (list_at run.back c)) c p
     (sources_closed s.on_lines)
     (λ e ce to. s.on_lines.sources e ce (ap (started run.stages) to ∙ begun))
     (out_not_ended (stage_at run.stages i) h)
     none
     (λ k listed e ce to. s.on_lines.sources e ce (ap (started run.stages) to ∙ s.on_columns.back_started c k listed))
-    (λ k e x hx touched. changed_back s c p k (ended_over (stage_at run.stages k) e) x hx touched))
+    (λ k e x hx touched. changed_back s c p k (ended_over (stage_at run.stages k) e) x hx touched)
+
+-- so are all its cells
+pub put_back_cells : {does : Effects} {g : GraphValue} {run : Run} → SoundWith does g run → (c i : ℕ) → out run.stages i ≡ true →
+    is_listed (list_at run.back c) i ≡ false →
+    put_cells_with does g i (list_at run.back c) c ≡ home_cells_with does g (i ∷ list_at run.back c) c
+put_back_cells {does} {g} {run} s c i h none = map_same
+    (λ p. cells_after (cells_of_lines_with does zero_cells g (is_listed (list_at run.back c))) (changes_with does zero_cells g i) c p)
+    (λ p. cells_of_lines_with does zero_cells g (is_listed (i ∷ list_at run.back c)) c p) (points (column_space g c)) (cell_with_one s c i h none)
 
 out_columns : {does : Effects} {g : GraphValue} {run : Run} → SoundWith does g run → (c i : ℕ) → MayTakeColumnWith does g run c i → SoundColumnsWith does g run.stages (slice_set run.places c (Had i)) run.back
 out_columns {does} {g} {run} s c i m =

@@ -1,36 +1,44 @@
 -- The premises are met: whole runs of small graphs, from the start to a quiet state, in another order than the evaluation's.
 use Rattle.std.proofs.Common.{◌≡◌, ℕ, zero, suc, ◌<◌, ◌≤◌, Bool, true, false, not, ◌&&◌, ◌⊎◌, inl, inr, List, [], ◌∷◌, length, refl, sym, ◌∙◌, ap, subst, lit≤, arith}
-use Rattle.std.specs.Prelude.{◌≢◌, ◌==◌, Option, Some, None, slice_get}
+use Rattle.std.specs.Prelude.{◌≢◌, ◌==◌, Contains, Option, Some, None, slice_get, codes}
+use Rattle.std.specs.Fmt.{digits}
 use Rattle.std.specs.List.{list_all}
 use Rattle.std.proofs.lemmas.Bool.{true≢false, cases_lt, eq-eqb, and_parts, not-true}
 use Rattle.std.proofs.lemmas.Option.{none-some, same_Some}
 use Rattle.std.proofs.lemmas.List.{get_or-set_same}
 use Rattle.graph_terms.specs.declared.outcome.End.{End}
 use Rattle.graph_terms.specs.declared.outcome.End.TheVariants.{Done, Faulted, Cancelled, Waiting}
+use Rattle.graph_terms.specs.declared.format.Format.TheVariants.{Three}
+use Rattle.graph_terms.specs.declared.decl.Decl.TheVariants.{Space, Inst}
+use Rattle.graph_terms.specs.declared.verb.Access.{Access}
 use Rattle.graph_terms.specs.declared.verb.Edge.{Edge}
+use Rattle.graph_terms.specs.declared.verb.Mode.{Mode}
+use Rattle.graph_terms.specs.declared.verb.Mode.TheVariants.{Read}
+use Rattle.graph_terms.specs.declared.verb.Verb.TheVariants.{Fill, Copy}
 use Rattle.graph_terms.specs.Graph.{GraphValue, never_comes}
+use Rattle.graph_terms.specs.Access.{accesses, is_read}
 use Rattle.graph_terms.specs.Edges.{edges}
 use Rattle.graph_meaning.specs.Rules.{Accepted}
 use Rattle.graph_meaning.specs.Effect.{effect}
 use Rattle.graph_meaning.specs.Evaluation.{eval_end, order}
 use Rattle.graph_terms.specs.Fits.{IsGraph}
-use Rattle.graph_terms.proofs.examples.Graphs.{one_fill, two_sections, reserved_sums}
+use Rattle.graph_terms.proofs.examples.Graphs.{line, one_fill, two_sections, reserved_sums}
 use Rattle.basics.proofs.ListFacts.{passes_each, same_at}
 use Rattle.graph_meaning.proofs.RulesTable.{implies, implied, accepted_by_tests}
-use Rattle.graph_terms.proofs.examples.Fits.{one_fill-fits, two_sections-fits}
+use Rattle.graph_terms.proofs.FitsTable.{fits_by_computing}
 use Rattle.graph_meaning.proofs.examples.Accepted.{two_sections-accepted, reserved_sums-accepted}
 use Rattle.graph_meaning.proofs.examples.Order.{reserved_sums-fits}
 use Rattle.run_state.specs.Run.{LineStage, Unissued, Issued, Out, Ending, Ended, Place, Home, Had, Run, is_listed, stage_at, time_at, place_at, list_at, stage_issued, stage_out, stage_over, stage_ended, ended, issued}
-use Rattle.run_state.specs.Sound.{Sound}
+use Rattle.run_state.specs.Sound.{OnlyReads, Sound}
 use Rattle.run_state.specs.Moves.{issue}
 use Rattle.run_state.specs.Work.{put_cells}
 use Rattle.run_state.specs.Start.{start}
 use Rattle.run_state.specs.Quiet.{Quiet, GivesOutcomeWith}
-use Rattle.run_state.specs.WholeLine.{lock_of, take_whole, put_back_whole}
+use Rattle.run_state.specs.WholeLine.{column_list, lock_of, take_whole, put_back_whole}
 use Rattle.run_state.proofs.Lists.{each_set, none_listed, stage_there}
 use Rattle.run_state.proofs.Stages.{issue-sound}
 use Rattle.run_state.proofs.Start.{start_is_sound}
-use Rattle.run_state.proofs.WholeLine.{acquires_lock, taken_is_sound, taken_is_at_rest}
+use Rattle.run_state.proofs.WholeLine.{listed_accessed, acquires_lock, taken_is_sound, taken_is_at_rest}
 use Rattle.run_state.proofs.PutBack.{put_back_is_sound, put_back_is_at_rest}
 use Rattle.run_state.proofs.Between.{start_is_at_rest, issue_is_at_rest}
 use Rattle.run_state.proofs.QuietTrace.{slots_by_times}
@@ -44,16 +52,16 @@ pub record Between (g : GraphValue) (run : Run) : Type 0 where
   pub rest : AtRest g run
 
 -- the first n lines issued
-abbrev issued_up : GraphValue → ℕ → Run
+abbrev pub issued_up : GraphValue → ℕ → Run
 issued_up g zero = start g
 issued_up g (suc n) = issue (issued_up g n) n
 
-record UpTo (g : GraphValue) (n : ℕ) : Type 0 where
-  between : Between g (issued_up g n)
+pub record UpTo (g : GraphValue) (n : ℕ) : Type 0 where
+  pub between : Between g (issued_up g n)
   below : (i : ℕ) → i < n → stage_at (issued_up g n).stages i ≡ Issued
   above : (i : ℕ) → n ≤ i → stage_at (issued_up g n).stages i ≡ Unissued
 
-up_to : (g : GraphValue) → IsGraph g → Accepted g → (n : ℕ) → n ≤ length g.lines → UpTo g n
+pub up_to : (g : GraphValue) → IsGraph g → Accepted g → (n : ℕ) → n ≤ length g.lines → UpTo g n
 up_to g f a zero h = record {
   between = record { sound = start_is_sound g f a; rest = start_is_at_rest g f a };
   below = λ i l. absurd (omega arith);
@@ -94,9 +102,17 @@ abbrev lock_is_free : Run → Option ℕ → Bool
 lock_is_free run None = true
 lock_is_free run (Some l) = is_empty (list_at run.holders l)
 
+abbrev sources_ended : GraphValue → Run → ℕ → Bool
+sources_ended g run i = list_all (λ (e : Edge). implies (e.to == i) (ended run.stages e.from)) (edges g)
+
 abbrev take_tests : GraphValue → Run → ℕ → Bool
-take_tests g run i = is_issued_stage (stage_at run.stages i) && (not (never_comes g i) && (list_all (λ (e : Edge). implies (e.to == i) (ended run.stages e.from)) (edges g)
+take_tests g run i = is_issued_stage (stage_at run.stages i) && (not (never_comes g i) && (sources_ended g run i
     && (is_done (eval_end g i) && (lock_is_free run (lock_of g i) && list_all is_home run.places))))
+
+pub ended_sources : (g : GraphValue) (run : Run) (i : ℕ) → sources_ended g run i ≡ true →
+    (e : Edge) → Contains (edges g) e → e.to ≡ i → ended run.stages e.from ≡ true
+ended_sources g run i h e c to = implied (e.to == i) (ended run.stages e.from)
+    (passes_each (λ (x : Edge). implies (x.to == i) (ended run.stages x.from)) (edges g) h e c) (eq-eqb e.to i to)
 
 issued_is : (s : LineStage) → is_issued_stage s ≡ true → s ≡ Issued
 issued_is Issued h = refl
@@ -105,7 +121,7 @@ issued_is Out h = absurd (true≢false (sym h))
 issued_is (Ending x) h = absurd (true≢false (sym h))
 issued_is (Ended x) h = absurd (true≢false (sym h))
 
-done_is : (x : End) → is_done x ≡ true → x ≢ Cancelled
+pub done_is : (x : End) → is_done x ≡ true → x ≢ Cancelled
 done_is Done h e = cc
 done_is Faulted h e = true≢false (sym h)
 done_is Cancelled h e = true≢false (sym h)
@@ -115,7 +131,7 @@ empty_is : (ks : List ℕ) → is_empty ks ≡ true → ks ≡ []
 empty_is [] h = refl
 empty_is (k ∷ ks) h = absurd (true≢false (sym h))
 
-home_is : (p : Place) (k : ℕ) → is_home p ≡ true → p ≡ Had k → ⊥
+pub home_is : (p : Place) (k : ℕ) → is_home p ≡ true → p ≡ Had k → ⊥
 home_is (Home xs) k h e = cc
 home_is (Had j) k h e = true≢false (sym h)
 
@@ -134,17 +150,17 @@ may_take g run i h =
     record {
       is_issued = issued_is (stage_at run.stages i) a.0;
       comes = not-true (never_comes g i) b.0;
-      sources = λ x cx to. implied (x.to == i) (ended run.stages x.from) (passes_each (λ (x : Edge). implies (x.to == i) (ended run.stages x.from)) (edges g) c.0 x cx) (eq-eqb x.to i to);
+      sources = ended_sources g run i c.0;
       not_cancelled = done_is (eval_end g i) d.0;
       lock_free = λ l q k held. absurd (none_listed k (subst (λ ks. is_listed ks k ≡ true) (empty_is (list_at run.holders l) (ap (lock_is_free run) (sym (acquires_lock g i l q)) ∙ e.0)) held));
       at_home = λ k x j. home_is (place_at run.places k) j (home_at run.places e.1 k);
     }
 
 -- a line taken and put back at once
-abbrev whole : GraphValue → Run → ℕ → Run
+abbrev pub whole : GraphValue → Run → ℕ → Run
 whole g run i = put_back_whole g (take_whole g run i) i (eval_end g i) (λ c. put_cells g i (list_at run.back c) c)
 
-whole_between : (g : GraphValue) (run : Run) (i : ℕ) → Between g run → take_tests g run i ≡ true → Between g (whole g run i)
+pub whole_between : (g : GraphValue) (run : Run) (i : ℕ) → Between g run → take_tests g run i ≡ true → Between g (whole g run i)
 whole_between g run i b h =
     let m = may_take g run i h in
     let s = taken_is_sound b.sound b.rest i m in
@@ -196,6 +212,10 @@ quiet_by_tests g run b h all = record {
 }
 
 -- one fill
+one_fill-fits : IsGraph one_fill
+unfolding digits
+one_fill-fits = fits_by_computing one_fill refl refl
+
 one_fill-accepted : Accepted one_fill
 one_fill-accepted = accepted_by_tests one_fill (record { range = refl; acyclic = refl; released = refl; sections = refl; descends = refl; release_faults = refl; races = refl })
 
@@ -219,6 +239,10 @@ filled-quiet = quiet_by_tests one_fill filled filled-between refl first_below
 -- two sections of one reservation, the second of which comes first
 abbrev second_first : List ℕ
 second_first = 3 ∷ 4 ∷ 5 ∷ 0 ∷ 1 ∷ 2 ∷ []
+
+two_sections-fits : IsGraph two_sections
+unfolding digits
+two_sections-fits = fits_by_computing two_sections refl refl
 
 abbrev both_over : Run
 both_over = all_whole two_sections (issued_up two_sections 6) second_first
@@ -271,3 +295,35 @@ summed-cells = refl
 -- its trace is the order in which the lines came
 summed-times : summed.times ≡ Some 5 ∷ Some 0 ∷ Some 6 ∷ Some 7 ∷ Some 8 ∷ Some 9 ∷ Some 1 ∷ Some 2 ∷ Some 3 ∷ Some 4 ∷ []
 summed-times = refl
+
+-- a line that only reads a column, by computing
+read_is : (m : Mode) → is_read m ≡ true → m ≡ Read
+read_is Read h = refl
+read_is m h = absurd (true≢false (sym h))
+
+abbrev reads_alone : GraphValue → ℕ → ℕ → Bool
+reads_alone g i c = is_listed (column_list g i) c && list_all (λ (a : Access). implies (a.column == c) (is_read a.mode)) (accesses g i)
+
+pub only_reads : (g : GraphValue) (i c : ℕ) → reads_alone g i c ≡ true → OnlyReads g i c
+only_reads g i c h = let both = and_parts _ _ h in record {
+  accessed = listed_accessed g i c both.0;
+  reads = λ a listed at. read_is a.mode (implied (a.column == c) (is_read a.mode)
+      (passes_each (λ (a : Access). implies (a.column == c) (is_read a.mode)) (accesses g i) both.1 a listed) (eq-eqb a.column c at));
+}
+
+-- two copies of one column, between a fill of it and another: the run of proofs/ExampleReaders
+abbrev pub shared_column : GraphValue
+shared_column = record {
+  format = Three;
+  decls = Space (codes "s") ((0, 1) ∷ []) ∷ Inst (codes "a") 0 (codes "x" ∷ codes "y" ∷ codes "z" ∷ []) ∷ [];
+  lines = line (codes "f") (Fill 0 0 7) [] ∷ line (codes "c") (Copy 0 1 0) (0 ∷ []) ∷ line (codes "d") (Copy 0 2 0) (0 ∷ [])
+      ∷ line (codes "g") (Fill 0 0 9) (1 ∷ 2 ∷ []) ∷ [];
+}
+
+pub shared_column-fits : IsGraph shared_column
+unfolding digits
+shared_column-fits = fits_by_computing shared_column refl refl
+
+pub shared_column-accepted : Accepted shared_column
+shared_column-accepted =
+    accepted_by_tests shared_column (record { range = refl; acyclic = refl; released = refl; sections = refl; descends = refl; release_faults = refl; races = refl })

@@ -12,12 +12,17 @@ use Rattle.run_state.proofs.PutBack as put_facts
 use Rattle.run_state.proofs.Taken as taken_facts
 use Rattle.run_state.proofs.Started as started_facts
 use Rattle.run_state.proofs.Work as work_facts
+use Rattle.run_state.proofs.Reading as reading_facts
+use Rattle.run_state.proofs.Sharing as sharing_facts
+use Rattle.run_state.proofs.Sight as sight_facts
+use Rattle.std.proofs.Common.{ap}
+use Rattle.run_state.specs.Run.{stage_out}
 use Rattle.run_state.proofs.Told as told_facts
 use Rattle.run_state.proofs.QuietOutcome as outcome_facts
 use Rattle.run_state.proofs.QuietTrace as trace_facts
 use Rattle.run_state.proofs.Slots as slots_facts
 use Rattle.run_state.proofs.Apart as apart_facts
-use Rattle.run_state.specs.Laws.{VerbsKeepToColumns, FaultsKeepToColumns, StartIsSound, StartIsAtRest, IssueKeepsSound, ClaimKeepsSound, UnclaimKeepsSound, ColumnOutKeepsSound, ColumnUnusedKeepsSound, ColumnBackKeepsSound, HoldKeepsSound, LetGoKeepsSound, ArriveKeepsSound, DrawKeepsSound, EndingKeepsSound, FreeKeepsSound, CloseKeepsSound, IssueKeepsRest, TakeKeepsRest, ClaimOfCancelledKeepsRest, PutBackKeepsRest, CanTakeWhole, CancelledByKeptEnds, TakenHolds, ListsHold, WorkIsAsEvaluated, WorkGivesCells, PerformedMayBePutBack, CancelledMayBePutBack, HoldsAllStays, MayPutBackStays, StageLeaves, ColumnOutLeaves, ColumnUnusedLeaves, ColumnBackLeaves, TakeLeaves, PutBackLeaves, BackAtRest, ArrivedAtRest, FreedAtRest, QuietGivesOutcome, SlotsAreByTimes, ClockIsSmall, LeftBelowNeed, UnorderedConflictOnlyExempt, OutConflictOnlyExempt}
+use Rattle.run_state.specs.Laws.{VerbsKeepToColumns, FaultsKeepToColumns, StartIsSound, StartIsAtRest, IssueKeepsSound, ClaimKeepsSound, UnclaimKeepsSound, ColumnOutKeepsSound, ColumnUnusedKeepsSound, ColumnBackKeepsSound, HoldKeepsSound, LetGoKeepsSound, ArriveKeepsSound, DrawKeepsSound, EndingKeepsSound, FreeKeepsSound, CloseKeepsSound, IssueKeepsRest, TakeKeepsRest, ClaimOfCancelledKeepsRest, PutBackKeepsRest, CanTakeWhole, CancelledByKeptEnds, TakenHolds, ListsHold, WorkIsAsEvaluated, WorkGivesCells, PerformedMayBePutBack, CancelledMayBePutBack, HoldsAllStays, MayPutBackStays, StageLeaves, ColumnOutLeaves, ColumnUnusedLeaves, ColumnBackLeaves, TakeLeaves, PutBackLeaves, BackAtRest, ArrivedAtRest, FreedAtRest, QuietGivesOutcome, SlotsAreByTimes, ClockIsSmall, LeftBelowNeed, UnorderedConflictOnlyExempt, OutConflictOnlyExempt, ColumnReadKeepsSound, ColumnReadLeavesCells, HoldersSee, SightIsAsEvaluated, SightGivesCells, ReadersStayApart, BackOrReadKeepsSound, ChangedOrRead, SharingStartsAtRest, IssueKeepsSharing, TakeKeepsSharing, ClaimOfCancelledKeepsSharing, PutBackKeepsSharing, TakenSees, SeenMayBePutBack, TakeLeavesSight, TakeLeavesEnd, PutBackLeavesSight, PutBackLeavesEnd}
 
 pub verbs_keep_to_columns : VerbsKeepToColumns
 verbs_keep_to_columns = verdict_facts.verbs_keep_to_columns
@@ -156,3 +161,60 @@ unordered_conflict_only_exempt g i j accepted forth back = apart_facts.unordered
 
 pub out_conflict_only_exempt : OutConflictOnlyExempt
 out_conflict_only_exempt does g stages i j accepted s hi hj = apart_facts.out_only_exempt accepted s i j hi hj
+
+pub column_read_keeps_sound : ColumnReadKeepsSound
+column_read_keeps_sound does g run c i s m = reading_facts.column_read-sound s c i m
+
+pub column_read_leaves_cells : ColumnReadLeavesCells
+column_read_leaves_cells does g run c i s m = reading_facts.column_read_leaves_cells s c i m
+
+pub holders_see : HoldersSee
+holders_see does g run i cells s h = work_facts.holders_see s i cells h
+
+pub sight_is_as_evaluated : SightIsAsEvaluated
+sight_is_as_evaluated does g run i cells s w = work_facts.sight_does s i cells w
+
+pub sight_gives_cells : SightGivesCells
+sight_gives_cells does g run i c cells s w a = (work_facts.sight_cells s i cells w c a, λ only. reading_facts.read_leaves s i c w.is_out only)
+
+pub readers_stay_apart : ReadersStayApart
+readers_stay_apart does g run i k c cells s m ne w = reading_facts.readers_stay_apart s i k c cells m ne w
+
+pub back_or_read_keeps_sound : BackOrReadKeepsSound
+back_or_read_keeps_sound does g run i xs s m = reading_facts.back_or_read-sound s i xs m
+
+pub changed_or_read : ChangedOrRead
+changed_or_read g i c f a = sharing_facts.changes_or_reads g f i c a
+
+pub sharing_starts_at_rest : SharingStartsAtRest
+sharing_starts_at_rest does g f a = sharing_facts.start_is_sharing g f a
+
+pub issue_keeps_sharing : IssueKeepsSharing
+issue_keeps_sharing does g run i s r m = (stages_facts.issue-sound s i m, sharing_facts.issue_is_sharing s r i m)
+
+pub take_keeps_sharing : TakeKeepsSharing
+take_keeps_sharing does g run i s r m = (sharing_facts.taken_shares_sound s i m, sharing_facts.taken_is_sharing s i m r)
+
+pub claim_of_cancelled_keeps_sharing : ClaimOfCancelledKeepsSharing
+claim_of_cancelled_keeps_sharing does g run i s r m e = (stages_facts.claim-sound s i m, sharing_facts.claim_is_sharing s r i m.is_issued e)
+
+pub put_back_keeps_sharing : PutBackKeepsSharing
+put_back_keeps_sharing does g run i x xs s r m = (sharing_facts.put_back_shares_sound g run s r i x xs m, sharing_facts.put_back_is_sharing g run s r i x xs m)
+
+pub taken_sees : TakenSees
+taken_sees does g run i lists s m at = sight_facts.taken_sees s i m lists at
+
+pub seen_may_be_put_back : SeenMayBePutBack
+seen_may_be_put_back does g run i cells xs s w made = taken_facts.seen_may_put_back s i cells w xs made
+
+pub take_leaves_sight : TakeLeavesSight
+take_leaves_sight does g run i k cells m w = sight_facts.take_leaves_sight i k cells m w
+
+pub take_leaves_end : TakeLeavesEnd
+take_leaves_end does g run i k x xs m p = sight_facts.take_leaves_put i k x xs m p
+
+pub put_back_leaves_sight : PutBackLeavesSight
+put_back_leaves_sight does g run i k x xs cells s r ne m w = sight_facts.put_back_leaves_sight s r i k ne x xs m w.is_out cells w
+
+pub put_back_leaves_end : PutBackLeavesEnd
+put_back_leaves_end does g run i k x y xs ys s r ne m p = sight_facts.put_back_leaves_put s r i k ne x xs m (ap stage_out p.is_out) y ys p

@@ -21,12 +21,16 @@ pub mod QuietPhases
 pub mod QuietOutcome
 pub mod Start
 pub mod WholeLine
+pub mod Reading
 pub mod PutBack
 pub mod Between
 pub mod Slots
 pub mod Ranks
 pub mod Taken
+pub mod Sharing
+pub mod Sight
 pub mod Told
 pub mod ExampleRun
+pub mod ExampleReaders
 pub mod LawFacts
 pub mod Public

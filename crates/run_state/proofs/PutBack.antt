@@ -31,8 +31,8 @@ use Rattle.run_state.proofs.Locks.{less_one, one_stays, free-sound}
 use Rattle.run_state.proofs.Phases.{arrive-sound, listed_push}
 use Rattle.graph_terms.proofs.Public.{release_of_is, passes_verb, verb_passes, acquired_lock_known, release_names, one_release}
 use Rattle.run_state.proofs.Reductions.{Fresh}
-use Rattle.run_state.proofs.WholeLine.{listed_accessed, accessed_listed, not_the_first, lock_acquires, acquires_lock}
-use Rattle.run_state.specs.AtRest.{AtRestWith, MayPutBackWith}
+use Rattle.run_state.proofs.WholeLine.{lines_at_rest, with_all_columns, listed_accessed, accessed_listed, not_the_first, lock_acquires, acquires_lock}
+use Rattle.run_state.specs.AtRest.{LinesAtRestWith, AtRestWith, MayPutBackWith}
 use Rattle.run_state.specs.Premises.{MayPutBackColumnWith, MayArriveWith, MayFreeWith}
 use Rattle.graph_meaning.specs.Effect.{Effects, zero_cells}
 
@@ -70,7 +70,7 @@ all_back_new back i (c ∷ cs) there d h =
       | inr r ↦ all_back_new (slice_set back c (i ∷ list_at back c)) i cs later d r
     ]
 
-all_back_cases : (back : List (List ℕ)) (i : ℕ) (cs : List ℕ) → ((c : ℕ) → is_listed cs c ≡ true → c < length back) → (d k : ℕ) → is_listed (list_at (all_back back i cs) d) k ≡ true → (k ≡ i) ⊎ (is_listed (list_at back d) k ≡ true)
+pub all_back_cases : (back : List (List ℕ)) (i : ℕ) (cs : List ℕ) → ((c : ℕ) → is_listed cs c ≡ true → c < length back) → (d k : ℕ) → is_listed (list_at (all_back back i cs) d) k ≡ true → (k ≡ i) ⊎ (is_listed (list_at back d) k ≡ true)
 unfolding with_one
 all_back_cases back i [] there d k h = inr h
 all_back_cases back i (c ∷ cs) there d k h =
@@ -92,7 +92,7 @@ listed_for g i Done c ne a = accessed_listed g i c a
 listed_for g i Faulted c ne a = accessed_listed g i c a
 listed_for g i Waiting c ne a = accessed_listed g i c a
 
-for_fresh : (g : GraphValue) (i : ℕ) (x : End) → Fresh (column_list g i) → Fresh (columns_for g i x)
+pub for_fresh : (g : GraphValue) (i : ℕ) (x : End) → Fresh (column_list g i) → Fresh (columns_for g i x)
 for_fresh g i Cancelled f = tt
 for_fresh g i Done f = f
 for_fresh g i Faulted f = f
@@ -182,7 +182,9 @@ acquire_is_ended {does} {g} {run} s r q rel h =
     let p = s.accepted.released q a.0 a.1 in
     path_ended s.on_lines q p.0 p.2 (ap (started run.stages) (one_release g s.graph q p.0 r p.1 rel) ∙ h)
 
-module _ {does : Effects} (g : GraphValue) (run : Run) (s : SoundWith does g run) (rest : AtRestWith does g run) (i : ℕ) (x : End) (xs : ℕ → List ℕ) (m : MayPutBackWith does g run i x xs) where
+-- a line that is put back, where all but the columns is done and it is put back on these
+module _ {does : Effects} (g : GraphValue) (run : Run) (s : SoundWith does g run) (rest : LinesAtRestWith does g run) (i : ℕ) (x : End) (xs : ℕ → List ℕ)
+    (m : MayPutBackWith does g run i x xs) (s_columns : SoundWith does g (columns_back run i xs (columns_for g i x))) where
   is_out : out run.stages i ≡ true
   is_out = ap stage_out m.is_out
 
@@ -203,10 +205,6 @@ module _ {does : Effects} (g : GraphValue) (run : Run) (s : SoundWith does g run
 
   column_below : (c : ℕ) → is_listed (columns_for g i x) c ≡ true → c < length run.back
   column_below c h = subst (λ n. c < n) (sym s.on_columns.each_back) (column_there s.graph i c (for_listed g i x c h).1)
-
-  s_columns : SoundWith does g (columns_back run i xs (columns_for g i x))
-  s_columns = columns_back-sound s i xs (columns_for g i x) (for_fresh g i x (columns_fresh g s.graph i))
-      (λ c h. let f = for_listed g i x c h in record { has = rest.out_has i c is_out (not_cancelled f.0) f.1; changed = m.leaves c f.1 (not_cancelled f.0) })
 
   s_arrived : SoundWith does g (arrive_some (columns_back run i xs (columns_for g i x)) i (arrival_for g i x))
   s_arrived = arrive_some-sound s_columns i (arrival_for g i x) (λ a e. let f = arrival_found g i x a e in record {
@@ -244,8 +242,8 @@ module _ {does : Effects} (g : GraphValue) (run : Run) (s : SoundWith does g run
   ended_stays : (k : ℕ) → ended run.stages k ≡ true → ended (slice_set run.stages i (Ending x)) k ≡ true
   ended_stays = each_set (λ k y. ended run.stages k ≡ true → stage_ended y ≡ true) run.stages Unissued i (Ending x) there (λ h. absurd (not_ended h)) (λ k ne h. h)
 
-  pub frees_found : (a : ℕ × ℕ) → frees_for g run i ≡ Some a → Releases g i a.1 × Acquires g a.1 a.0 × (ended run.stages a.1 ≡ true) × (end_with does zero_cells g a.1 ≡ Done)
-  frees_found a e =
+  frees_are : (a : ℕ × ℕ) → frees_for g run i ≡ Some a → Releases g i a.1 × Acquires g a.1 a.0 × (ended run.stages a.1 ≡ true) × (end_with does zero_cells g a.1 ≡ Done)
+  frees_are a e =
       let v = by_option (verb_at g i) refl e in
       let f = freed_lock_is a.1 (end_so_far (stage_at run.stages a.1)) (lock_of g a.1) a v.1 in
       let rel : Releases g i a.1 = verb_passes (is_release_of a.1) g i (Release a.1) v.0 ∙ eq-eqb a.1 a.1 refl in
@@ -256,7 +254,7 @@ module _ {does : Effects} (g : GraphValue) (run : Run) (s : SoundWith does g run
       by_option (Some v) d h = let r = frees_is g run v a h in (d ∙ ap Some r.0, r.1)
 
   s_freed : SoundWith does g (free_some (ending (draw (arrive_some (columns_back run i xs (columns_for g i x)) i (arrival_for g i x)) i) i x) i (frees_for g run i))
-  s_freed = free_some-sound s_ending i (frees_for g run i) (λ a e. let f = frees_found a e in record {
+  s_freed = free_some-sound s_ending i (frees_for g run i) (λ a e. let f = frees_are a e in record {
     is_over = ap stage_over ending_at;
     releases = f.0;
     acquires = f.1;
@@ -276,14 +274,14 @@ module _ {does : Effects} (g : GraphValue) (run : Run) (s : SoundWith does g run
       )
 
   -- a line that is put back
-  pub put_back_is_sound : SoundWith does g (put_back_whole g run i x xs)
-  put_back_is_sound = close-sound s_freed i x (record {
+  pub sound_after : SoundWith does g (put_back_whole g run i x xs)
+  sound_after = close-sound s_freed i x (record {
     is_ending = ending_at;
     frees = λ q rel done. let f = frees_some q rel done in freed_new run.freed i (frees_for g run i) (f.0, q) f.1;
   })
 
   -- the stages after it
-  last_stages : List LineStage
+  pub last_stages : List LineStage
   last_stages = slice_set (slice_set run.stages i (Ending x)) i (Ended x)
 
   still_there : i < length (slice_set run.stages i (Ending x))
@@ -300,7 +298,7 @@ module _ {does : Effects} (g : GraphValue) (run : Run) (s : SoundWith does g run
   last_ended : (k : ℕ) → ended run.stages k ≡ true → ended last_stages k ≡ true
   last_ended k h = elim (cases_eq k i) [ inl e ↦ ap (ended last_stages) e ∙ last_here | inr ne ↦ ap stage_ended (last_other k ne) ∙ h ]
 
-  last_out : (k : ℕ) → out last_stages k ≡ true → (k ≡ i → ⊥) × (out run.stages k ≡ true)
+  pub last_out : (k : ℕ) → out last_stages k ≡ true → (k ≡ i → ⊥) × (out run.stages k ≡ true)
   last_out k h = elim (cases_eq k i) [
     | inl e ↦ absurd (true≢false (sym last_here ∙ out_not_ended (stage_at last_stages i) (ap (out last_stages) (sym e) ∙ h)))
     | inr ne ↦ (ne, ap stage_out (sym (last_other k ne)) ∙ h)
@@ -310,9 +308,9 @@ module _ {does : Effects} (g : GraphValue) (run : Run) (s : SoundWith does g run
   ended_or_kept k (inl e) = ap (ended last_stages) e ∙ last_here
   ended_or_kept k (inr h) = last_ended k h
 
-  pub put_back_is_at_rest : AtRestWith does g (put_back_whole g run i x xs)
+  pub lines_after : LinesAtRestWith does g (put_back_whole g run i x xs)
   unfolding last_stages
-  put_back_is_at_rest = record {
+  lines_after = record {
     none_ending = λ k h. elim (cases_eq k i) [
       | inl e ↦ ap (ended last_stages) e ∙ last_here
       | inr ne ↦ last_ended k (rest.none_ending k (ap stage_over (sym (last_other k ne)) ∙ h))
@@ -320,11 +318,33 @@ module _ {does : Effects} (g : GraphValue) (run : Run) (s : SoundWith does g run
     back_ended = λ c k h. ended_or_kept k (elim (all_back_cases run.back i (columns_for g i x) column_below c k h) [ inl e ↦ inl e | inr old ↦ inr (rest.back_ended c k old) ]);
     arrived_ended = λ k h. ended_or_kept k (elim (arrived_cases run.arrived i (arrival_for g i x) k h) [ inl e ↦ inl e | inr old ↦ inr (rest.arrived_ended k old) ]);
     freed_ended = λ k h. ended_or_kept k (elim (freed_cases run.freed i (frees_for g run i) k h) [ inl e ↦ inl e | inr old ↦ inr (rest.freed_ended k old) ]);
-    out_has = λ k c h n a. (let o = last_out k h in let had : place_at run.places c ≡ Had k = rest.out_has k c o.1 n a in
-        all_home_other run.places xs (columns_for g i x) c (λ l. let f = for_listed g i x c l in
-        o.0 (had_one k i (sym had ∙ rest.out_has i c is_out (not_cancelled f.0) f.1))) ∙ had);
     out_holds = λ k l h n a. (let o = last_out k h in
-        holders_stay run.holders (frees_for g run i) (λ b e. let f = frees_found b e in subst (λ z. b.0 < z) (sym s.on_locks.each_lock) (acquired_lock_known g s.graph b.1 b.0 f.1)) l k (rest.out_holds k l o.1 n a)
-        (λ b e same. (let f = frees_found b e in true≢false (sym (ap (ended run.stages) same ∙ f.2) ∙ out_not_ended (stage_at run.stages k) o.1))));
+        holders_stay run.holders (frees_for g run i) (λ b e. let f = frees_are b e in subst (λ z. b.0 < z) (sym s.on_locks.each_lock) (acquired_lock_known g s.graph b.1 b.0 f.1)) l k (rest.out_holds k l o.1 n a)
+        (λ b e same. (let f = frees_are b e in true≢false (sym (ap (ended run.stages) same ∙ f.2) ∙ out_not_ended (stage_at run.stages k) o.1))));
     out_untimed = λ k h. (let o = last_out k h in ap is_some (get_or-set_other run.times i k (Some run.clock) None o.0) ∙ rest.out_untimed k o.1);
   }
+
+  pub out_after : (k : ℕ) → out (put_back_whole g run i x xs).stages k ≡ true → (k ≡ i → ⊥) × (out run.stages k ≡ true)
+  unfolding last_stages
+  out_after = last_out
+
+-- so it is at rest, where the line had all its columns
+module _ {does : Effects} (g : GraphValue) (run : Run) (s : SoundWith does g run) (rest : AtRestWith does g run) (i : ℕ) (x : End) (xs : ℕ → List ℕ)
+    (m : MayPutBackWith does g run i x xs) where
+  had : (c : ℕ) → is_listed (columns_for g i x) c ≡ true → (x ≢ Cancelled) × AccessesColumn g i c × (place_at run.places c ≡ Had i)
+  had c h = let f = for_listed g i x c h in (f.0, f.1, rest.out_has i c (ap stage_out m.is_out) (λ e. f.0 (sym m.is_end ∙ e)) f.1)
+
+  s_columns : SoundWith does g (columns_back run i xs (columns_for g i x))
+  s_columns = columns_back-sound s i xs (columns_for g i x) (for_fresh g i x (columns_fresh g s.graph i))
+      (λ c h. let f = had c h in record { has = f.2; changed = m.leaves c f.1 (λ e. f.0 (sym m.is_end ∙ e)) })
+
+  pub frees_found : (a : ℕ × ℕ) → frees_for g run i ≡ Some a → Releases g i a.1 × Acquires g a.1 a.0 × (ended run.stages a.1 ≡ true) × (end_with does zero_cells g a.1 ≡ Done)
+  frees_found = frees_are g run s (lines_at_rest rest) i x xs m s_columns
+
+  pub put_back_is_sound : SoundWith does g (put_back_whole g run i x xs)
+  put_back_is_sound = sound_after g run s (lines_at_rest rest) i x xs m s_columns
+
+  pub put_back_is_at_rest : AtRestWith does g (put_back_whole g run i x xs)
+  put_back_is_at_rest = with_all_columns (lines_after g run s (lines_at_rest rest) i x xs m s_columns)
+      (λ k c h n a. (let o = out_after g run s (lines_at_rest rest) i x xs m s_columns k h in let kept : place_at run.places c ≡ Had k = rest.out_has k c o.1 n a in
+      all_home_other run.places xs (columns_for g i x) c (λ l. o.0 (had_one k i (sym kept ∙ (had c l).2))) ∙ kept))

@@ -76,7 +76,7 @@ step_change k true e x c = absurd (contains_none x c)
 step_change k false e x c = made_change e.verdict e.changes x c
 
 -- so it lies within an access of the line
-change_access : {does : Effects} {g : GraphValue} {run : Run} → SoundWith does g run → (k : ℕ) → has_ended (evaluation_with does zero_cells g) k ≡ true →
+pub change_access : {does : Effects} {g : GraphValue} {run : Run} → SoundWith does g run → (k : ℕ) → has_ended (evaluation_with does zero_cells g) k ≡ true →
     (x : CellChange) → Contains (changes_with does zero_cells g k) x → IsWithinAccess (space_at g) (accesses g k) x
 change_access {does} {g} {run} s k h x hx =
     let t = ends_by_turn_with does zero_cells g k h in

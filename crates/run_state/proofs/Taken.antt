@@ -11,17 +11,17 @@ use Rattle.graph_terms.specs.Fits.{IsGraph}
 use Rattle.graph_meaning.proofs.Public.{accesses_fit}
 use Rattle.run_state.specs.Run.{Unissued, Out, Home, Had, Run, is_listed, stage_at, place_at, list_at, stage_issued, stage_out}
 use Rattle.run_state.specs.Sound.{AccessesColumn, home_cells_with, SoundWith}
-use Rattle.run_state.specs.Work.{HoldsAllWith, cells_from, performed, performed_with}
+use Rattle.run_state.specs.Work.{HoldsAllWith, SeesAllWith, cells_from, performed_with}
 use Rattle.run_state.specs.Quiet.{CanTakeWith}
 use Rattle.run_state.specs.WholeLine.{take_whole}
 use Rattle.run_state.proofs.Lists.{stage_there, out_is}
-use Rattle.run_state.proofs.Work.{work_does, work_cells}
+use Rattle.run_state.proofs.Work.{holders_see, sight_does, sight_cells}
 use Rattle.run_state.proofs.Ranks.{cell_of_point}
 use Rattle.run_state.proofs.WholeLine.{taken_is_sound, taken_is_at_rest}
 use Rattle.run_state.specs.AtRest.{AtRestWith, MayTakeWholeWith, MayPutBackWith}
 
 -- the space of a column that a line accesses
-column_space_is : {g : GraphValue} → IsGraph g → (i c : ℕ) → AccessesColumn g i c → IsSpace (column_space g c)
+pub column_space_is : {g : GraphValue} → IsGraph g → (i c : ℕ) → AccessesColumn g i c → IsSpace (column_space g c)
 column_space_is {g} f i c a = subst (λ z. IsSpace (column_space g z)) a.2 (accesses_fit g i a.0 f a.1).is_column_space
 
 -- lists of the cells by rank hold what stands at home
@@ -43,14 +43,20 @@ taken_holds {does} {g} {run} s rest i m lists at =
     lists_hold (taken_is_sound s rest i m) i is_out m.not_cancelled
     (λ c a. (taken_is_at_rest s rest i m).out_has i c is_out m.not_cancelled a) lists (λ c a. s.on_columns.cells c (lists c) (at c a))
 
--- a line that has performed on what it holds may be put back, with what it left
-pub may_put_back : {does : Effects} {g : GraphValue} {run : Run} → SoundWith does g run → (i : ℕ) (cells : Cells) → HoldsAllWith does g run i cells → (xs : ℕ → List ℕ) →
-    ((c : ℕ) → AccessesColumn g i c → xs c ≡ (column_of g (performed_with does i cells) c).cells) → MayPutBackWith does g run i (end_by (does i cells).verdict) xs
-may_put_back {does} {g} {run} s i cells w xs made = record {
+-- a line that has performed on what it sees may be put back, with what it left
+pub seen_may_put_back : {does : Effects} {g : GraphValue} {run : Run} → SoundWith does g run → (i : ℕ) (cells : Cells) → SeesAllWith does g run i cells →
+    (xs : ℕ → List ℕ) → ((c : ℕ) → AccessesColumn g i c → xs c ≡ (column_of g (performed_with does i cells) c).cells) →
+    MayPutBackWith does g run i (end_by (does i cells).verdict) xs
+seen_may_put_back {does} {g} {run} s i cells w xs made = record {
   is_out = out_is (stage_at run.stages i) w.is_out;
-  is_end = sym (work_does s i cells w).end_is;
-  leaves = λ c a n. made c a ∙ work_cells s i cells w c a;
+  is_end = sym (sight_does s i cells w).end_is;
+  leaves = λ c a n. made c a ∙ sight_cells s i cells w c a;
 }
+
+pub may_put_back : {does : Effects} {g : GraphValue} {run : Run} → SoundWith does g run → (i : ℕ) (cells : Cells) → HoldsAllWith does g run i cells →
+    (xs : ℕ → List ℕ) → ((c : ℕ) → AccessesColumn g i c → xs c ≡ (column_of g (performed_with does i cells) c).cells) →
+    MayPutBackWith does g run i (end_by (does i cells).verdict) xs
+may_put_back s i cells w xs made = seen_may_put_back s i cells (holders_see s i cells w) xs made
 
 -- so may a line that is cancelled, which holds nothing
 pub may_put_back_cancelled : {does : Effects} {g : GraphValue} {run : Run} → (i : ℕ) → stage_at run.stages i ≡ Out → end_with does zero_cells g i ≡ Cancelled → (xs : ℕ → List ℕ) → MayPutBackWith does g run i Cancelled xs

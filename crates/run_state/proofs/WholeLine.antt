@@ -1,5 +1,5 @@
 -- A line taken or put back whole keeps the state sound and at rest.
-use Rattle.std.proofs.Common.{◌≡◌, ℕ, ◌<◌, true, false, inl, inr, List, [], ◌∷◌, length, refl, sym, ◌∙◌, ap, subst, length-set}
+use Rattle.std.proofs.Common.{◌≡◌, ℕ, ◌<◌, true, false, ◌⊎◌, inl, inr, List, [], ◌∷◌, length, refl, sym, ◌∙◌, ap, subst, length-set}
 use Rattle.std.specs.Prelude.{Contains, ◌≢◌, Option, Some, None, slice_set}
 use Rattle.std.specs.Option.{option_map_or}
 use Rattle.std.proofs.lemmas.List.{get_or-set_same, get_or-set_other}
@@ -14,7 +14,7 @@ use Rattle.graph_terms.specs.Access.{accesses}
 use Rattle.graph_terms.specs.Reservations.{Acquires}
 use Rattle.graph_meaning.specs.Evaluation.{end_with}
 use Rattle.basics.proofs.ListFacts.{contains_map, map_contains}
-use Rattle.run_state.specs.Run.{LineStage, Unissued, Issued, Out, Place, Home, Had, Run, is_listed, stage_at, place_at, list_at, stage_issued, stage_out, stage_started, stage_over, stage_ended, started, ended, timed}
+use Rattle.run_state.specs.Run.{LineStage, Unissued, Issued, Out, Place, Home, Had, Run, is_listed, stage_at, place_at, list_at, stage_issued, stage_out, stage_started, stage_over, stage_ended, out, started, ended, timed}
 use Rattle.run_state.specs.Sound.{AccessesColumn, SoundWith}
 use Rattle.run_state.specs.Moves.{claim, column_out, inserted}
 use Rattle.run_state.specs.WholeLine.{column_list, lock_by, lock_of, all_had, columns_out, holders_with, hold_some, take_whole}
@@ -25,7 +25,7 @@ use Rattle.run_state.proofs.Stages.{claim-sound}
 use Rattle.run_state.proofs.Locks.{with_holder, holder_more, holder_new, hold-sound}
 use Rattle.graph_terms.proofs.Public.{acquire_of_is, passes_verb, acquired_lock_known}
 use Rattle.run_state.proofs.Reductions.{Fresh}
-use Rattle.run_state.specs.AtRest.{AtRestWith, MayTakeWholeWith}
+use Rattle.run_state.specs.AtRest.{LinesAtRestWith, AtRestWith, MayTakeWholeWith}
 use Rattle.run_state.specs.Premises.{MayTakeColumnWith, MayHoldWith}
 use Rattle.run_state.specs.Laws.{ReservationOfAcquire, AccessedColumnsAreListed}
 use Rattle.graph_meaning.specs.Effect.{Effects, zero_cells}
@@ -100,33 +100,72 @@ held_new holders i l None e there = absurd (none-some l e)
 held_new holders i l (Some j) e there = let same : j ≡ l = same_Some j l e in
     subst (λ z. is_listed (list_at (slice_set holders z (inserted i (list_at holders z))) l) i ≡ true) (sym same) (holder_new holders l i there)
 
--- a line that goes on to a stage before its end leaves the run at rest, where each line keeps what it had
+-- all but the columns of a run at rest
+pub lines_at_rest : {does : Effects} {g : GraphValue} {run : Run} → AtRestWith does g run → LinesAtRestWith does g run
+lines_at_rest rest = record {
+  none_ending = rest.none_ending;
+  back_ended = rest.back_ended;
+  arrived_ended = rest.arrived_ended;
+  freed_ended = rest.freed_ended;
+  out_holds = rest.out_holds;
+  out_untimed = rest.out_untimed;
+}
+
+pub with_all_columns : {does : Effects} {g : GraphValue} {run : Run} → LinesAtRestWith does g run →
+    ((i c : ℕ) → out run.stages i ≡ true → end_with does zero_cells g i ≢ Cancelled → AccessesColumn g i c → place_at run.places c ≡ Had i) →
+    AtRestWith does g run
+with_all_columns done has = record {
+  none_ending = done.none_ending;
+  back_ended = done.back_ended;
+  arrived_ended = done.arrived_ended;
+  freed_ended = done.freed_ended;
+  out_has = has;
+  out_holds = done.out_holds;
+  out_untimed = done.out_untimed;
+}
+
+-- a line that goes on to a stage before its end leaves the run so, whatever columns move
+pub goes_on : {does : Effects} {g : GraphValue} {run : Run} → LinesAtRestWith does g run → (i : ℕ) (s : LineStage) (places : List Place) (holders : List (List ℕ)) →
+    i < length run.stages → stage_over s ≡ false → ended run.stages i ≡ false →
+    ((l k : ℕ) → is_listed (list_at run.holders l) k ≡ true → is_listed (list_at holders l) k ≡ true) →
+    ((l : ℕ) → stage_out s ≡ true → end_with does zero_cells g i ≢ Cancelled → Acquires g i l → is_listed (list_at holders l) i ≡ true) →
+    (stage_out s ≡ true → timed run.times i ≡ false) →
+    LinesAtRestWith does g record run { stages = slice_set run.stages i s; places = places; holders = holders }
+goes_on {does} {g} {run} done i s places holders there not_over left holds_stays holds untimed =
+    let kept : (k : ℕ) → ended run.stages k ≡ true → ended (slice_set run.stages i s) k ≡ true =
+    each_set (λ k x. ended run.stages k ≡ true → stage_ended x ≡ true) run.stages Unissued i s there (λ h. absurd (true≢false (sym h ∙ left))) (λ k ne h. h) in
+    record {
+      none_ending = each_set (λ k x. stage_over x ≡ true → stage_ended x ≡ true) run.stages Unissued i s there
+          (λ h. absurd (true≢false (sym h ∙ not_over))) (λ k ne. done.none_ending k);
+      back_ended = λ c k h. kept k (done.back_ended c k h);
+      arrived_ended = λ k h. kept k (done.arrived_ended k h);
+      freed_ended = λ k h. kept k (done.freed_ended k h);
+      out_holds = λ k l. each_set
+          (λ k x. stage_out x ≡ true → end_with does zero_cells g k ≢ Cancelled → Acquires g k l → is_listed (list_at holders l) k ≡ true)
+          run.stages Unissued i s there (holds l) (λ k ne h n a. holds_stays l k (done.out_holds k l h n a)) k;
+      out_untimed = each_set (λ k x. stage_out x ≡ true → timed run.times k ≡ false) run.stages Unissued i s there untimed
+          (λ k ne. done.out_untimed k);
+    }
+
+-- and at rest, where each line keeps what it had
 pub goes_at_rest : {does : Effects} {g : GraphValue} {run : Run} → AtRestWith does g run → (i : ℕ) (s : LineStage) (places : List Place) (holders : List (List ℕ)) → i < length run.stages → stage_over s ≡ false → ended run.stages i ≡ false
     → ((k c : ℕ) → place_at run.places c ≡ Had k → place_at places c ≡ Had k) → ((l k : ℕ) → is_listed (list_at run.holders l) k ≡ true → is_listed (list_at holders l) k ≡ true)
     → ((c : ℕ) → stage_out s ≡ true → end_with does zero_cells g i ≢ Cancelled → AccessesColumn g i c → place_at places c ≡ Had i) → ((l : ℕ) → stage_out s ≡ true → end_with does zero_cells g i ≢ Cancelled → Acquires g i l → is_listed (list_at holders l) i ≡ true)
     → (stage_out s ≡ true → timed run.times i ≡ false) → AtRestWith does g record run { stages = slice_set run.stages i s; places = places; holders = holders }
 goes_at_rest {does} {g} {run} rest i s places holders there not_over left has_stays holds_stays has holds untimed =
-    let kept : (k : ℕ) → ended run.stages k ≡ true → ended (slice_set run.stages i s) k ≡ true =
-    each_set (λ k x. ended run.stages k ≡ true → stage_ended x ≡ true) run.stages Unissued i s there (λ h. absurd (true≢false (sym h ∙ left))) (λ k ne h. h) in
-    record {
-      none_ending = each_set (λ k x. stage_over x ≡ true → stage_ended x ≡ true) run.stages Unissued i s there (λ h. absurd (true≢false (sym h ∙ not_over))) (λ k ne. rest.none_ending k);
-      back_ended = λ c k h. kept k (rest.back_ended c k h);
-      arrived_ended = λ k h. kept k (rest.arrived_ended k h);
-      freed_ended = λ k h. kept k (rest.freed_ended k h);
-      out_has = λ k c. each_set (λ k x. stage_out x ≡ true → end_with does zero_cells g k ≢ Cancelled → AccessesColumn g k c → place_at places c ≡ Had k) run.stages Unissued i s there (has c) (λ k ne h n a. has_stays k c (rest.out_has k c h n a)) k;
-      out_holds = λ k l. each_set (λ k x. stage_out x ≡ true → end_with does zero_cells g k ≢ Cancelled → Acquires g k l → is_listed (list_at holders l) k ≡ true) run.stages Unissued i s there (holds l) (λ k ne h n a. holds_stays l k (rest.out_holds k l h n a)) k;
-      out_untimed = each_set (λ k x. stage_out x ≡ true → timed run.times k ≡ false) run.stages Unissued i s there untimed (λ k ne. rest.out_untimed k);
-    }
+    with_all_columns (goes_on (lines_at_rest rest) i s places holders there not_over left holds_stays holds untimed)
+    (λ k c. each_set (λ k x. stage_out x ≡ true → end_with does zero_cells g k ≢ Cancelled → AccessesColumn g k c → place_at places c ≡ Had k) run.stages Unissued i s there (has c) (λ k ne h n a. has_stays k c (rest.out_has k c h n a)) k)
 
--- a claim and what follows it
-module _ {does : Effects} {g : GraphValue} {run : Run} (s : SoundWith does g run) (rest : AtRestWith does g run) (i : ℕ) (m : MayTakeWholeWith does g run i) where
+-- a claim and what follows it: some of its columns taken, each once
+module _ {does : Effects} {g : GraphValue} {run : Run} (s : SoundWith does g run) (i : ℕ) (m : MayTakeWholeWith does g run i) (cs : List ℕ)
+    (once : Fresh cs) (accessed : (c : ℕ) → is_listed cs c ≡ true → AccessesColumn g i c) where
   is_there : i < length run.stages
   is_there = stage_there run.stages i (ap stage_issued m.is_issued)
 
-  claimed : stage_at (slice_set run.stages i Out) i ≡ Out
+  pub claimed : stage_at (slice_set run.stages i Out) i ≡ Out
   claimed = get_or-set_same run.stages i Out Unissued is_there
 
-  begun_not : started run.stages i ≡ true → ⊥
+  pub begun_not : started run.stages i ≡ true → ⊥
   begun_not h = true≢false (sym h ∙ ap stage_started m.is_issued)
 
   s_claimed : SoundWith does g (claim run i)
@@ -140,29 +179,45 @@ module _ {does : Effects} {g : GraphValue} {run : Run} (s : SoundWith does g run
     is_free = m.lock_free l (lock_acquires g i l e);
   })
 
-  -- a line that is taken
-  pub taken_is_sound : SoundWith does g (take_whole g run i)
-  taken_is_sound = columns_out-sound s_held i (column_list g i) (columns_fresh g s.graph i) (λ c h. record {
+  pub taken_sound : SoundWith does g (columns_out (hold_some (claim run i) i (lock_of g i)) i cs)
+  taken_sound = columns_out-sound s_held i cs once (λ c h. record {
     is_out = ap stage_out claimed;
-    accessed = listed_accessed g i c h;
+    accessed = accessed c h;
     not_cancelled = m.not_cancelled;
     not_back = false_from_ne_true (is_listed (list_at run.back c) i) (λ l. begun_not (s.on_columns.back_started c i l));
-    at_home = m.at_home c (listed_accessed g i c h);
+    at_home = m.at_home c (accessed c h);
   })
 
   lock_below : (l : ℕ) → lock_of g i ≡ Some l → l < length run.holders
   lock_below l e = subst (λ n. l < n) (sym s.on_locks.each_lock) (acquired_lock_known g s.graph i l (lock_acquires g i l e))
 
-  place_kept : (k c : ℕ) → place_at run.places c ≡ Had k → place_at (all_had run.places i (column_list g i)) c ≡ Had k
-  place_kept k c e = all_had_other run.places i (column_list g i) c (λ h. m.at_home c (listed_accessed g i c h) k e) ∙ e
+  pub taken_lines : LinesAtRestWith does g run → LinesAtRestWith does g (columns_out (hold_some (claim run i) i (lock_of g i)) i cs)
+  taken_lines lines = goes_on lines i Out (all_had run.places i cs) (holders_with run.holders i (lock_of g i)) is_there refl (ap stage_ended m.is_issued)
+      (held_more run.holders i (lock_of g i) lock_below)
+      (λ l h n a. held_new run.holders i l (lock_of g i) (acquires_lock g i l a) (lock_below l (acquires_lock g i l a)))
+      (λ h. false_from_ne_true (timed run.times i) (λ t. begun_not (s.on_times.timed_started i t)))
 
-  place_new : (c : ℕ) → AccessesColumn g i c → place_at (all_had run.places i (column_list g i)) c ≡ Had i
-  place_new c a = all_had_listed run.places i (column_list g i) c (subst (λ n. c < n) (sym s.on_columns.each_column) (column_there s.graph i c a)) (columns_fresh g s.graph i) (accessed_listed g i c a)
+  pub place_kept : (k c : ℕ) → place_at run.places c ≡ Had k → place_at (all_had run.places i cs) c ≡ Had k
+  place_kept k c e = all_had_other run.places i cs c (λ h. m.at_home c (accessed c h) k e) ∙ e
+
+  pub place_new : (c : ℕ) → is_listed cs c ≡ true → place_at (all_had run.places i cs) c ≡ Had i
+  place_new c h = all_had_listed run.places i cs c (subst (λ n. c < n) (sym s.on_columns.each_column) (column_there s.graph i c (accessed c h))) once h
+
+  -- each other line that is out was so before
+  pub taken_out : (k : ℕ) → out (slice_set run.stages i Out) k ≡ true → (k ≡ i) ⊎ (out run.stages k ≡ true)
+  taken_out = each_set (λ k x. stage_out x ≡ true → (k ≡ i) ⊎ (out run.stages k ≡ true)) run.stages Unissued i Out is_there (λ h. inl refl) (λ k ne h. inr h)
+
+-- all of them
+module _ {does : Effects} {g : GraphValue} {run : Run} (s : SoundWith does g run) (rest : AtRestWith does g run) (i : ℕ) (m : MayTakeWholeWith does g run i) where
+  pub taken_is_sound : SoundWith does g (take_whole g run i)
+  taken_is_sound = taken_sound s i m (column_list g i) (columns_fresh g s.graph i) (listed_accessed g i)
 
   pub taken_is_at_rest : AtRestWith does g (take_whole g run i)
-  taken_is_at_rest = goes_at_rest rest i Out (all_had run.places i (column_list g i)) (holders_with run.holders i (lock_of g i)) is_there refl (ap stage_ended m.is_issued) place_kept (held_more run.holders i (lock_of g i) lock_below)
-      (λ c h n a. place_new c a) (λ l h n a. held_new run.holders i l (lock_of g i) (acquires_lock g i l a) (lock_below l (acquires_lock g i l a)))
-      (λ h. false_from_ne_true (timed run.times i) (λ t. begun_not (s.on_times.timed_started i t)))
+  taken_is_at_rest = with_all_columns (taken_lines s i m (column_list g i) (columns_fresh g s.graph i) (listed_accessed g i) (lines_at_rest rest))
+      (λ k c h n a. elim (taken_out s i m (column_list g i) (columns_fresh g s.graph i) (listed_accessed g i) k h) [
+        | inl e ↦ place_new s i m (column_list g i) (columns_fresh g s.graph i) (listed_accessed g i) c (subst (λ z. is_listed (column_list g z) c ≡ true) e (accessed_listed g k c a)) ∙ ap Had (sym e)
+        | inr was ↦ place_kept s i m (column_list g i) (columns_fresh g s.graph i) (listed_accessed g i) k c (rest.out_has k c was n a)
+      ])
 
 -- a line that is cancelled is only claimed
 pub claim_is_at_rest : {does : Effects} {g : GraphValue} {run : Run} → SoundWith does g run → AtRestWith does g run → (i : ℕ) → stage_at run.stages i ≡ Issued → end_with does zero_cells g i ≡ Cancelled → AtRestWith does g (claim run i)

@@ -12,6 +12,18 @@ use Rattle.run_state.specs.Run.{Run, Issued, Out, Had, is_listed, stage_at, plac
 use Rattle.run_state.specs.Sound.{AccessesColumn, IsOpenTo}
 use Rattle.run_state.specs.Work.{put_cells_with}
 
+-- what holds of a run between two such steps of all but the columns, besides that it is sound
+pub record LinesAtRestWith (does : Effects) (g : GraphValue) (run : Run) : Type 0 where
+  -- no line is ending; the lines put back, the arrivals put in and the releases that have freed are ended
+  pub none_ending : (i : ℕ) → IsTrue (over run.stages i) → IsTrue (ended run.stages i)
+  pub back_ended : (c i : ℕ) → IsTrue (is_listed (list_at run.back c) i) → IsTrue (ended run.stages i)
+  pub arrived_ended : (i : ℕ) → IsTrue (is_listed run.arrived i) → IsTrue (ended run.stages i)
+  pub freed_ended : (r : ℕ) → IsTrue (is_listed run.freed r) → IsTrue (ended run.stages r)
+  -- a line that is out, and not cancelled, has its reservation; it has no time
+  pub out_holds : (i l : ℕ) → IsTrue (out run.stages i) → end_with does zero_cells g i ≢ Cancelled → Acquires g i l →
+      IsTrue (is_listed (list_at run.holders l) i)
+  pub out_untimed : (i : ℕ) → IsTrue (out run.stages i) → timed run.times i ≡ false
+
 -- what holds of a run between two such steps, besides that it is sound
 pub record AtRestWith (does : Effects) (g : GraphValue) (run : Run) : Type 0 where
   -- no line is ending; the lines put back, the arrivals put in and the releases that have freed are ended

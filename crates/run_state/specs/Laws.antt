@@ -15,12 +15,13 @@ use Rattle.graph_terms.specs.Fits.{IsGraph}
 use Rattle.graph_meaning.specs.Need.{IsNeed}
 use Rattle.graph_meaning.specs.Trace.{IsLawful}
 use Rattle.run_state.specs.Run.{LineStage, Run, Out, Home, Had, is_listed, stage_at, time_at, place_at, list_at, out, ended, stage_out, stage_started, stage_over, stage_ended, stage_issued, started, end_so_far, over}
-use Rattle.run_state.specs.Sound.{AccessesColumn, is_arrive, Once, value_for, home_cells_with, SoundLinesWith, SoundWith}
-use Rattle.run_state.specs.Moves.{staged, issue, claim, unclaim, ending, close, column_out, column_unused, column_back, arrive, hold, let_go, free, draw, without, inserted}
-use Rattle.run_state.specs.Work.{cells_from, HoldsAllWith, performed_with, put_cells_with, PerformsAsEvaluatedWith}
-use Rattle.run_state.specs.Premises.{MayIssue, MayClaim, MayUnclaim, MayLetGo, MayTakeColumnWith, MayReturnColumnWith, MayPutBackColumnWith, MayHoldWith, MayArriveWith, MayDrawWith, MayEndWith, MayFreeWith, MayCloseWith}
-use Rattle.run_state.specs.WholeLine.{take_whole, put_back_whole, lock_of, column_list}
+use Rattle.run_state.specs.Sound.{AccessesColumn, OnlyReads, is_arrive, Once, value_for, home_cells_with, SoundLinesWith, SoundWith}
+use Rattle.run_state.specs.Moves.{staged, issue, claim, unclaim, ending, close, column_out, column_unused, column_back, column_read, arrive, hold, let_go, free, draw, without, inserted}
+use Rattle.run_state.specs.Work.{cells_from, cells_now_with, HoldsAllWith, SeesAllWith, performed_with, put_cells_with, PerformsAsEvaluatedWith}
+use Rattle.run_state.specs.Premises.{MayIssue, MayClaim, MayUnclaim, MayLetGo, MayTakeColumnWith, MayReturnColumnWith, MayPutBackColumnWith, MayReadColumnWith, MayBackOrReadWith, MayHoldWith, MayArriveWith, MayDrawWith, MayEndWith, MayFreeWith, MayCloseWith}
+use Rattle.run_state.specs.WholeLine.{take_whole, put_back_whole, lock_of, column_list, columns_back}
 use Rattle.run_state.specs.AtRest.{Undisturbed, AtRestWith, MayTakeWholeWith, MayPutBackWith}
+use Rattle.run_state.specs.Sharing.{ChangesColumn, take_sharing, AtRestSharingWith, MayTakeSharingWith}
 use Rattle.run_state.specs.Start.{start}
 use Rattle.run_state.specs.Apart.{ConflictOnlyExempt}
 use Rattle.run_state.specs.Quiet.{kept_cancels, left_among, ByTimes, CanTakeWith, QuietWith, StuckWith, IsLawfulWith, GivesOutcomeWith}
@@ -193,6 +194,101 @@ UnorderedConflictOnlyExempt = (g : GraphValue) (i j : ℕ) → Accepted g → (H
 abbrev pub OutConflictOnlyExempt : Type 0
 OutConflictOnlyExempt = (does : Effects) (g : GraphValue) (stages : List LineStage) (i j : ℕ) → Accepted g → SoundLinesWith does g stages →
     IsTrue (out stages i) → IsTrue (out stages j) → ConflictOnlyExempt g i j
+
+-- a line put back on a column that it only reads, while the column is at home, keeps a state sound
+abbrev pub ColumnReadKeepsSound : Type 0
+ColumnReadKeepsSound = (does : Effects) (g : GraphValue) (run : Run) (c i : ℕ) → SoundWith does g run → MayReadColumnWith does g run c i →
+    SoundWith does g (column_read run c i)
+
+-- and leaves the cells of all columns as they are
+abbrev pub ColumnReadLeavesCells : Type 0
+ColumnReadLeavesCells = (does : Effects) (g : GraphValue) (run : Run) (c i : ℕ) → SoundWith does g run → MayReadColumnWith does g run c i →
+    (d p : ℕ) → cells_now_with does g (column_read run c i) d p ≡ cells_now_with does g run d p
+
+-- a line that holds its columns sees their cells
+abbrev pub HoldersSee : Type 0
+HoldersSee = (does : Effects) (g : GraphValue) (run : Run) (i : ℕ) (cells : Cells) → SoundWith does g run → HoldsAllWith does g run i cells →
+    SeesAllWith does g run i cells
+
+-- what a line does to the cells that it sees is what it does in the evaluation
+abbrev pub SightIsAsEvaluated : Type 0
+SightIsAsEvaluated = (does : Effects) (g : GraphValue) (run : Run) (i : ℕ) (cells : Cells) → SoundWith does g run →
+    SeesAllWith does g run i cells → PerformsAsEvaluatedWith does g i cells
+
+-- and the cells of each of its columns after it are those with which the line is put back there. Of one that it only reads they are those at home
+abbrev pub SightGivesCells : Type 0
+SightGivesCells = (does : Effects) (g : GraphValue) (run : Run) (i c : ℕ) (cells : Cells) → SoundWith does g run →
+    SeesAllWith does g run i cells → AccessesColumn g i c →
+    ((column_of g (performed_with does i cells) c).cells ≡ put_cells_with does g i (list_at run.back c) c)
+    × (OnlyReads g i c → put_cells_with does g i (list_at run.back c) c ≡ home_cells_with does g (list_at run.back c) c)
+
+-- a line goes on to see the same cells where another is put back on a column that it only reads
+abbrev pub ReadersStayApart : Type 0
+ReadersStayApart = (does : Effects) (g : GraphValue) (run : Run) (i k c : ℕ) (cells : Cells) → SoundWith does g run →
+    MayReadColumnWith does g run c k → i ≢ k → SeesAllWith does g run i cells → SeesAllWith does g (column_read run c k) i cells
+
+-- a line put back on all its columns, of which it has some and only reads the others, keeps a state sound
+abbrev pub BackOrReadKeepsSound : Type 0
+BackOrReadKeepsSound = (does : Effects) (g : GraphValue) (run : Run) (i : ℕ) (xs : ℕ → List ℕ) → SoundWith does g run →
+    ((c : ℕ) → IsTrue (is_listed (column_list g i) c) → MayBackOrReadWith does g run c i (xs c)) →
+    SoundWith does g (columns_back run i xs (column_list g i))
+
+-- a column that a line accesses is one that it may change, or one that it only reads
+abbrev pub ChangedOrRead : Type 0
+ChangedOrRead = (g : GraphValue) (i c : ℕ) → IsGraph g → AccessesColumn g i c → ChangesColumn g i c ⊎ OnlyReads g i c
+
+-- where lines share the columns that they only read, a run begins at rest
+abbrev pub SharingStartsAtRest : Type 0
+SharingStartsAtRest = (does : Effects) (g : GraphValue) → IsGraph g → Accepted g → AtRestSharingWith does g (start g)
+
+-- a line issued, a whole line taken, a cancelled line claimed and a whole line put back leave a state sound and at rest
+abbrev pub IssueKeepsSharing : Type 0
+IssueKeepsSharing = (does : Effects) (g : GraphValue) (run : Run) (i : ℕ) → SoundWith does g run → AtRestSharingWith does g run →
+    MayIssue g run i → SoundWith does g (issue run i) × AtRestSharingWith does g (issue run i)
+
+abbrev pub TakeKeepsSharing : Type 0
+TakeKeepsSharing = (does : Effects) (g : GraphValue) (run : Run) (i : ℕ) → SoundWith does g run → AtRestSharingWith does g run →
+    MayTakeSharingWith does g run i → SoundWith does g (take_sharing g run i) × AtRestSharingWith does g (take_sharing g run i)
+
+abbrev pub ClaimOfCancelledKeepsSharing : Type 0
+ClaimOfCancelledKeepsSharing = (does : Effects) (g : GraphValue) (run : Run) (i : ℕ) → SoundWith does g run → AtRestSharingWith does g run →
+    MayClaim g run i → end_with does zero_cells g i ≡ Cancelled → SoundWith does g (claim run i) × AtRestSharingWith does g (claim run i)
+
+abbrev pub PutBackKeepsSharing : Type 0
+PutBackKeepsSharing = (does : Effects) (g : GraphValue) (run : Run) (i : ℕ) (x : End) (xs : ℕ → List ℕ) → SoundWith does g run →
+    AtRestSharingWith does g run → MayPutBackWith does g run i x xs →
+    SoundWith does g (put_back_whole g run i x xs) × AtRestSharingWith does g (put_back_whole g run i x xs)
+
+-- a line taken so sees the cells that its columns have at home
+abbrev pub TakenSees : Type 0
+TakenSees = (does : Effects) (g : GraphValue) (run : Run) (i : ℕ) (lists : ℕ → List ℕ) → SoundWith does g run →
+    MayTakeSharingWith does g run i → ((c : ℕ) → AccessesColumn g i c → place_at run.places c ≡ Home (lists c)) →
+    SeesAllWith does g (take_sharing g run i) i (cells_from g lists)
+
+-- a line that performed on the cells that it sees may be put back with what it left
+abbrev pub SeenMayBePutBack : Type 0
+SeenMayBePutBack = (does : Effects) (g : GraphValue) (run : Run) (i : ℕ) (cells : Cells) (xs : ℕ → List ℕ) → SoundWith does g run →
+    SeesAllWith does g run i cells → ((c : ℕ) → AccessesColumn g i c → xs c ≡ (column_of g (performed_with does i cells) c).cells) →
+    MayPutBackWith does g run i (end_by (does i cells).verdict) xs
+
+-- as other lines are taken and put back, a line goes on to see the same cells, and may be put back with the same
+abbrev pub TakeLeavesSight : Type 0
+TakeLeavesSight = (does : Effects) (g : GraphValue) (run : Run) (i k : ℕ) (cells : Cells) → MayTakeSharingWith does g run k →
+    SeesAllWith does g run i cells → SeesAllWith does g (take_sharing g run k) i cells
+
+abbrev pub TakeLeavesEnd : Type 0
+TakeLeavesEnd = (does : Effects) (g : GraphValue) (run : Run) (i k : ℕ) (x : End) (xs : ℕ → List ℕ) → MayTakeSharingWith does g run k →
+    MayPutBackWith does g run i x xs → MayPutBackWith does g (take_sharing g run k) i x xs
+
+abbrev pub PutBackLeavesSight : Type 0
+PutBackLeavesSight = (does : Effects) (g : GraphValue) (run : Run) (i k : ℕ) (x : End) (xs : ℕ → List ℕ) (cells : Cells) → SoundWith does g run →
+    AtRestSharingWith does g run → i ≢ k → MayPutBackWith does g run k x xs → SeesAllWith does g run i cells →
+    SeesAllWith does g (put_back_whole g run k x xs) i cells
+
+abbrev pub PutBackLeavesEnd : Type 0
+PutBackLeavesEnd = (does : Effects) (g : GraphValue) (run : Run) (i k : ℕ) (x y : End) (xs ys : ℕ → List ℕ) → SoundWith does g run →
+    AtRestSharingWith does g run → i ≢ k → MayPutBackWith does g run k x xs → MayPutBackWith does g run i y ys →
+    MayPutBackWith does g (put_back_whole g run k x xs) i y ys
 
 -- a number that is listed is in the list
 abbrev pub ListedIsContained : Type 0

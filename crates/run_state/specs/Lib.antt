@@ -5,6 +5,7 @@ pub mod Work
 pub mod Premises
 pub mod WholeLine
 pub mod AtRest
+pub mod Sharing
 pub mod Quiet
 pub mod Start
 pub mod Apart

@@ -1,5 +1,5 @@
 -- What must hold for each step.
-use Rattle.std.specs.Prelude.{◌≡◌, ◌≢◌, ℕ, ◌<◌, false, List, length, Contains, IsTrue, Some, None, slice_get}
+use Rattle.std.specs.Prelude.{◌≡◌, ◌≢◌, ◌⊎◌, ℕ, ◌<◌, false, List, length, Contains, IsTrue, Some, None, slice_get}
 use Rattle.index_spaces.specs.declared.Op.{Op}
 use Rattle.graph_terms.specs.declared.decl.BarrierInfo.{BarrierInfo}
 use Rattle.graph_terms.specs.declared.outcome.End.{End}
@@ -12,7 +12,7 @@ use Rattle.graph_terms.specs.Reservations.{Acquires, Releases}
 use Rattle.graph_meaning.specs.Effect.{Effects, zero_cells}
 use Rattle.graph_meaning.specs.Evaluation.{end_with}
 use Rattle.run_state.specs.Run.{Run, Unissued, Issued, Out, Ending, Had, is_listed, stage_at, time_at, place_at, list_at, issued, out, over, ended, timed}
-use Rattle.run_state.specs.Sound.{AccessesColumn, is_arrive, home_cells_with, value_for, IsOpenTo}
+use Rattle.run_state.specs.Sound.{AccessesColumn, OnlyReads, is_arrive, home_cells_with, value_for, IsOpenTo}
 use Rattle.run_state.specs.Work.{put_cells_with}
 
 -- a line that is issued is the next one
@@ -52,6 +52,22 @@ pub record MayReturnColumnWith (does : Effects) (g : GraphValue) (run : Run) (c 
 -- a line is put back on a column that it has, with these cells changed as the line changes them in the evaluation
 pub record MayPutBackColumnWith (does : Effects) (g : GraphValue) (run : Run) (c i : ℕ) (xs : List ℕ) : Type 0 where
   pub has : place_at run.places c ≡ Had i
+  pub changed : xs ≡ put_cells_with does g i (list_at run.back c) c
+
+-- a line is put back on a column that it only reads, and was not put back on before, where no line has it
+pub record MayReadColumnWith (does : Effects) (g : GraphValue) (run : Run) (c i : ℕ) : Type 0 where
+  pub is_out : IsTrue (out run.stages i)
+  pub only_reads : OnlyReads g i c
+  pub not_cancelled : end_with does zero_cells g i ≢ Cancelled
+  pub not_back : is_listed (list_at run.back c) i ≡ false
+  pub at_home : (k : ℕ) → place_at run.places c ≢ Had k
+
+-- a line is put back on a column that it has, or that it only reads and no line has, with these cells changed as in the evaluation
+pub record MayBackOrReadWith (does : Effects) (g : GraphValue) (run : Run) (c i : ℕ) (xs : List ℕ) : Type 0 where
+  pub is_out : IsTrue (out run.stages i)
+  pub not_cancelled : end_with does zero_cells g i ≢ Cancelled
+  pub not_back : is_listed (list_at run.back c) i ≡ false
+  pub has_or_reads : (place_at run.places c ≡ Had i) ⊎ (OnlyReads g i c × ((k : ℕ) → place_at run.places c ≢ Had k))
   pub changed : xs ≡ put_cells_with does g i (list_at run.back c) c
 
 -- an acquire takes its reservation, which no other holds but shared ones where it is shared

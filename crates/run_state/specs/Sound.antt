@@ -6,6 +6,7 @@ use Rattle.graph_terms.specs.declared.outcome.End.{End}
 use Rattle.graph_terms.specs.declared.outcome.End.TheVariants.{Done, Cancelled}
 use Rattle.graph_terms.specs.declared.verb.Access.{Access}
 use Rattle.graph_terms.specs.declared.verb.Edge.{Edge}
+use Rattle.graph_terms.specs.declared.verb.Mode.TheVariants.{Read}
 use Rattle.graph_terms.specs.declared.verb.Verb.{Verb}
 use Rattle.graph_terms.specs.declared.verb.Verb.TheVariants.{Phase, Arrive}
 use Rattle.graph_terms.specs.declared.decl.BarrierInfo.{BarrierInfo}
@@ -24,6 +25,11 @@ use Rattle.run_state.specs.Verdicts.{KeepsToColumns}
 -- a line accesses a column
 abbrev pub AccessesColumn : GraphValue → ℕ → ℕ → Type 0
 AccessesColumn g i c = (a : Access) × Contains (accesses g i) a × (a.column ≡ c)
+
+-- a line accesses a column, and only reads it
+pub record OnlyReads (g : GraphValue) (i c : ℕ) : Type 0 where
+  pub accessed : AccessesColumn g i c
+  pub reads : (a : Access) → Contains (accesses g i) a → a.column ≡ c → a.mode ≡ Read
 
 -- an arrival
 abbrev pub is_arrive : Verb → Bool

@@ -1,5 +1,5 @@
 -- What a line that was taken holds.
-use Rattle.std.specs.Prelude.{◌≡◌, ◌≢◌, ℕ, List, IsTrue, slice_index}
+use Rattle.std.specs.Prelude.{◌≡◌, ◌≢◌, ℕ, false, List, IsTrue, slice_index}
 use Rattle.index_spaces.specs.Space.{has_point, rank}
 use Rattle.graph_terms.specs.declared.outcome.End.TheVariants.{Cancelled}
 use Rattle.graph_terms.specs.Graph.{GraphValue, column_space}
@@ -26,6 +26,14 @@ pub record HoldsAllWith (does : Effects) (g : GraphValue) (run : Run) (i : ℕ) 
 -- the same with the effects of the graph's verbs
 abbrev pub HoldsAll : GraphValue → Run → ℕ → Cells → Type 0
 HoldsAll g run i cells = HoldsAllWith (effect g) g run i cells
+
+-- a line that is out, is not cancelled and was put back on no column, where its columns have these cells now: those that it has and those that it
+-- only reads
+pub record SeesAllWith (does : Effects) (g : GraphValue) (run : Run) (i : ℕ) (cells : Cells) : Type 0 where
+  pub is_out : IsTrue (out run.stages i)
+  pub not_cancelled : end_with does zero_cells g i ≢ Cancelled
+  pub not_back : (c : ℕ) → is_listed (list_at run.back c) i ≡ false
+  pub sees : (c : ℕ) → AccessesColumn g i c → (p : ℕ) → IsTrue (has_point (column_space g c) p) → cells c p ≡ cells_now_with does g run c p
 
 -- the cells of a column after the line's effect on them
 abbrev pub performed_by : Effect → Cells → Cells

@@ -1,6 +1,6 @@
 //! What holds of the states of all runs, for callers to cite. No function here does anything.
 
-ghost use Rattle.run_state.specs.Laws.{VerbsKeepToColumns, FaultsKeepToColumns, StartIsSound, StartIsAtRest, IssueKeepsSound, ClaimKeepsSound, UnclaimKeepsSound, ColumnOutKeepsSound, ColumnUnusedKeepsSound, ColumnBackKeepsSound, HoldKeepsSound, LetGoKeepsSound, ArriveKeepsSound, DrawKeepsSound, EndingKeepsSound, FreeKeepsSound, CloseKeepsSound, IssueKeepsRest, TakeKeepsRest, ClaimOfCancelledKeepsRest, PutBackKeepsRest, CanTakeWhole, CancelledByKeptEnds, TakenHolds, ListsHold, WorkIsAsEvaluated, WorkGivesCells, PerformedMayBePutBack, CancelledMayBePutBack, HoldsAllStays, MayPutBackStays, StageLeaves, ColumnOutLeaves, ColumnUnusedLeaves, ColumnBackLeaves, TakeLeaves, PutBackLeaves, BackAtRest, ArrivedAtRest, FreedAtRest, QuietGivesOutcome, SlotsAreByTimes, ClockIsSmall, LeftBelowNeed, UnorderedConflictOnlyExempt, OutConflictOnlyExempt};
+ghost use Rattle.run_state.specs.Laws.{VerbsKeepToColumns, FaultsKeepToColumns, StartIsSound, StartIsAtRest, IssueKeepsSound, ClaimKeepsSound, UnclaimKeepsSound, ColumnOutKeepsSound, ColumnUnusedKeepsSound, ColumnBackKeepsSound, HoldKeepsSound, LetGoKeepsSound, ArriveKeepsSound, DrawKeepsSound, EndingKeepsSound, FreeKeepsSound, CloseKeepsSound, IssueKeepsRest, TakeKeepsRest, ClaimOfCancelledKeepsRest, PutBackKeepsRest, CanTakeWhole, CancelledByKeptEnds, TakenHolds, ListsHold, WorkIsAsEvaluated, WorkGivesCells, PerformedMayBePutBack, CancelledMayBePutBack, HoldsAllStays, MayPutBackStays, StageLeaves, ColumnOutLeaves, ColumnUnusedLeaves, ColumnBackLeaves, TakeLeaves, PutBackLeaves, BackAtRest, ArrivedAtRest, FreedAtRest, QuietGivesOutcome, SlotsAreByTimes, ClockIsSmall, LeftBelowNeed, UnorderedConflictOnlyExempt, OutConflictOnlyExempt, ColumnReadKeepsSound, ColumnReadLeavesCells, HoldersSee, SightIsAsEvaluated, SightGivesCells, ReadersStayApart, BackOrReadKeepsSound, ChangedOrRead, SharingStartsAtRest, IssueKeepsSharing, TakeKeepsSharing, ClaimOfCancelledKeepsSharing, PutBackKeepsSharing, TakenSees, SeenMayBePutBack, TakeLeavesSight, TakeLeavesEnd, PutBackLeavesSight, PutBackLeavesEnd};
 
 /// The effects of a graph's verbs keep to its columns.
 pub fn verbs_keep_to_columns()
@@ -234,4 +234,102 @@ pub fn unordered_conflict_only_exempt()
 /// Two lines that are out together conflict only where both reduce and are exempt.
 pub fn out_conflict_only_exempt()
     ensures { OutConflictOnlyExempt }
+{}
+
+/// Putting a line back on a column that it only reads, while the column is at home, keeps a state
+/// sound.
+pub fn column_read_keeps_sound()
+    ensures { ColumnReadKeepsSound }
+{}
+
+/// It leaves the cells of all columns as they are.
+pub fn column_read_leaves_cells()
+    ensures { ColumnReadLeavesCells }
+{}
+
+/// A line that holds its columns sees their cells.
+pub fn holders_see()
+    ensures { HoldersSee }
+{}
+
+/// What a line does to the cells that it sees is what it does in the evaluation.
+pub fn sight_is_as_evaluated()
+    ensures { SightIsAsEvaluated }
+{}
+
+/// The cells that a line leaves on a column that it sees are those with which it is put back there,
+/// and on a column that it only reads those at home.
+pub fn sight_gives_cells()
+    ensures { SightGivesCells }
+{}
+
+/// A line goes on to see the same cells where another is put back on a column that it only reads.
+pub fn readers_stay_apart()
+    ensures { ReadersStayApart }
+{}
+
+/// Putting a line back on all its columns, of which it has some and only reads the others, keeps a
+/// state sound.
+pub fn back_or_read_keeps_sound()
+    ensures { BackOrReadKeepsSound }
+{}
+
+/// A column that a line accesses is one that it may change, or one that it only reads.
+pub fn changed_or_read()
+    ensures { ChangedOrRead }
+{}
+
+/// Where lines share the columns that they only read, a run begins at rest.
+pub fn sharing_starts_at_rest()
+    ensures { SharingStartsAtRest }
+{}
+
+/// Issuing the next line then leaves a state sound and at rest.
+pub fn issue_keeps_sharing()
+    ensures { IssueKeepsSharing }
+{}
+
+/// Taking a line with the columns that it may change leaves a state sound and at rest.
+pub fn take_keeps_sharing()
+    ensures { TakeKeepsSharing }
+{}
+
+/// Claiming a line that is cancelled leaves a state sound and at rest.
+pub fn claim_of_cancelled_keeps_sharing()
+    ensures { ClaimOfCancelledKeepsSharing }
+{}
+
+/// Putting a whole line back leaves a state sound and at rest.
+pub fn put_back_keeps_sharing()
+    ensures { PutBackKeepsSharing }
+{}
+
+/// A line taken so sees the cells that its columns have at home.
+pub fn taken_sees()
+    ensures { TakenSees }
+{}
+
+/// A line that performed on the cells that it sees may be put back with what it left.
+pub fn seen_may_be_put_back()
+    ensures { SeenMayBePutBack }
+{}
+
+/// A line goes on to see the same cells as another is taken.
+pub fn take_leaves_sight()
+    ensures { TakeLeavesSight }
+{}
+
+/// A line may be put back with the same as another is taken.
+pub fn take_leaves_end()
+    ensures { TakeLeavesEnd }
+{}
+
+/// A line goes on to see the same cells as another is put back.
+pub fn put_back_leaves_sight()
+    ensures { PutBackLeavesSight }
+{}
+
+/// A line may be put back with the same as another is put back.
+pub fn put_back_leaves_end()
+    ensures { PutBackLeavesEnd }
 {}

@@ -18,8 +18,8 @@ use std::test::Fail;
 use test_texts::generated::chain;
 use test_texts::graphs::{
     CANCELLED_BARRIER, EMPTY, FAULTY_PATHS, KERNELS, LOCKED_SUMS, MISSING_WEIGHT, NINE_WAITERS,
-    NO_TRIGGER, ONE_SHARED_SUM, READERS_AND_WRITER, TWO_READERS, TWO_SECTIONS, TWO_SHARED_SECTIONS,
-    WAITER_ABOVE_TRIGGER, WEIGHTED_ARRIVALS,
+    NO_TRIGGER, ONE_SHARED_SUM, READER_AND_SUM, READERS_AND_WRITER, SECTION_WITHOUT_RESERVATION,
+    TWO_READERS, TWO_SECTIONS, TWO_SHARED_SECTIONS, WAITER_ABOVE_TRIGGER, WEIGHTED_ARRIVALS,
 };
 use test_texts::tiles;
 
@@ -118,7 +118,9 @@ fn small_graphs(rt: HostRuntime) -> Result<(), Fail> {
         (KERNELS, 9),
         (LOCKED_SUMS, 10),
         (ONE_SHARED_SUM, 10),
+        (READER_AND_SUM, 2),
         (READERS_AND_WRITER, 13),
+        (SECTION_WITHOUT_RESERVATION, 16),
         (TWO_SECTIONS, 6),
         (TWO_SHARED_SECTIONS, 6),
         (NINE_WAITERS, 11),
@@ -178,19 +180,21 @@ fn second_waits_for(alloc: Global, text: &str, second: u32) -> Result<Option<Thi
         return Err("first".into());
     };
     match core.attempt(second) {
+        Attempt::Taken(_) => Ok(None),
         Attempt::Busy(thing) => Ok(Some(thing)),
-        _ => Ok(None),
+        _ => Err("second".into()),
     }
 }
 
 #[test]
 fn second_line_waits(rt: HostRuntime) -> Result<(), Fail> {
     for (text, second, thing) in [
-        (TWO_READERS, 1, Thing::Column(0)),
-        (TWO_SECTIONS, 3, Thing::Lock(0)),
+        (READER_AND_SUM, 1, Some(Thing::Column(0))),
+        (TWO_SECTIONS, 3, Some(Thing::Lock(0))),
+        (TWO_READERS, 1, None),
     ] {
         let found = second_waits_for(rt.alloc(), text, second)?;
-        assert_eq!(rt; found, Some(thing));
+        assert_eq!(rt; found, thing);
     }
     Ok(())
 }

@@ -18,6 +18,8 @@ mod orders;
 #[cfg(test)]
 mod outcomes;
 #[cfg(test)]
+mod piece_tests;
+#[cfg(test)]
 mod prepared;
 #[cfg(test)]
 mod turn_tests;

@@ -1,10 +1,10 @@
 //! Outcomes that are compared.
 
 use graph_terms::outcome::{End, Outcome};
-use index_spaces::column::Column;
+use index_spaces::column::ColumnView;
 
 /// Whether two columns have the same cells, by their ranks.
-fn has_same_cells(one: &Column, other: &Column) -> bool {
+fn has_same_cells(one: &ColumnView<'_>, other: &ColumnView<'_>) -> bool {
     let mut points = one.space().intervals().iter();
     one.space().intervals() == other.space().intervals()
         && points.all(|interval| {
@@ -16,7 +16,8 @@ fn has_same_cells(one: &Column, other: &Column) -> bool {
 /// Whether two outcomes have the same columns.
 fn has_same_columns(one: &Outcome, other: &Outcome) -> bool {
     let mut pairs = one.columns.items.iter().zip(other.columns.items.iter());
-    one.columns.len() == other.columns.len() && pairs.all(|(a, b)| has_same_cells(a, b))
+    one.columns.len() == other.columns.len()
+        && pairs.all(|(a, b)| has_same_cells(&a.view(), &b.view()))
 }
 
 /// Whether the trace has just so many lines, each line that ended among them.

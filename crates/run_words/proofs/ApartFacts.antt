@@ -1,6 +1,6 @@
 -- Two works of one run at once: seats that clash are not there together.
 use Rattle.std.proofs.Common.{◌≡◌, ℕ, Bool, true, false, ◌+◌, ◌-◌, ◌<◌, ◌≤◌, zero, suc, inl, inr, List, [], ◌∷◌, ◌++◌, length, set, refl, sym, ◌∙◌, ap, subst, arith, ⊎_elim}
-use Rattle.std.specs.Prelude.{Contains, Option, Some}
+use Rattle.std.specs.Prelude.{Contains, Some}
 use Rattle.std.proofs.lemmas.Option.{none-some}
 use Rattle.std.proofs.lemmas.List.Elements.{Contains-append_right}
 use mathlib.Core.Option.{some, some-ne-none}
@@ -25,8 +25,9 @@ use Rattle.run_words.specs.declared.works.WordWork.{WordWork}
 use Rattle.run_words.specs.Apart.{StaysWork, AreNeverTogether, without_claim, with_claim, impossible_view}
 use Rattle.run_words.specs.Claims.{Claim, new_claim}
 use Rattle.run_words.specs.Plays.{Sat, no_view, parent_of, child_of, end_of_code, ended_by, looked_at, Told}
+use Rattle.run_words.specs.Laden.{with_taken}
 use Rattle.run_words.specs.Premises.{Has}
-use Rattle.run_words.specs.Rule.{Fits, AreNumbered, Shown, ground_of}
+use Rattle.run_words.specs.Rule.{Loans, Fits, AreNumbered, Shown, ground_of}
 use Rattle.run_words.specs.Views.{runs_at, issues_at, owes_at, has_issue_turn}
 use Rattle.run_words.specs.Words.{graph_of, events_of, IsSeatOf}
 use Rattle.run_words.specs.Works.{IsWorkOf, event_of}
@@ -65,8 +66,8 @@ number_of_claim : (l : List ℕ) → (l ≡ [] → ⊥) → (p : ℕ) × (ps : L
 number_of_claim [] h = absurd (h refl)
 number_of_claim (p ∷ ps) h = (p, ps, refl)
 
-module _ {g : GraphValue} {e : Events} {run : Run} {handles : List Handle} (v : View) (f : Fits g e run handles v) where
-  left_fits : Fits g e run handles (without_claim v)
+module _ {g : GraphValue} {e : Events} {run : Run} {loans : Loans} {handles : List Handle} (v : View) (f : Fits g e run loans handles v) where
+  left_fits : Fits g e run loans handles (without_claim v)
   left_fits = record {
     keys = f.keys;
     issued = f.issued;
@@ -81,7 +82,7 @@ module _ {g : GraphValue} {e : Events} {run : Run} {handles : List Handle} (v : 
     idle = λ n. (refl, (f.idle n).1, (f.idle n).2);
   }
 
-  right_fits : Fits g e run handles (with_claim v)
+  right_fits : Fits g e run loans handles (with_claim v)
   right_fits = record {
     keys = f.keys;
     issued = f.issued;
@@ -105,8 +106,8 @@ claim_moves g e id v c has s o me =
     same_board g e s o (set s.views id l ++ r ∷ [])
     (λ k. moved_sum (issues_at k) s.views id v l r me (omega arith)) (λ k. moved_sum (owes_at k) s.views id v l r me (omega arith)) (moved_sum has_issue_turn s.views id v l r me (omega arith)) (λ k. moved_sum (runs_at k) s.views id v l r me (omega arith))
     (λ j u at. ⊎_elim
-    (λ b. elim (at_set s.views id j l u b) [ inl (here, is) ↦ subst (Fits g e o.run o.handles) is (left_fits v f) | inr (other, before) ↦ o.each_view j u before ])
-    (λ (q : r ≡ u). subst (Fits g e o.run o.handles) q (right_fits v f))
+    (λ b. elim (at_set s.views id j l u b) [ inl (here, is) ↦ subst (Fits g e o.run o.loans o.handles) is (left_fits v f) | inr (other, before) ↦ o.each_view j u before ])
+    (λ (q : r ≡ u). subst (Fits g e o.run o.loans o.handles) q (right_fits v f))
     (at_snoc (set s.views id l) r u j at))
     (moved_numbers s.views o.numbers id v me own.0 own.1 own.2)
     (longer_known (set s.views id l) (r ∷ []) (known_on s.views id v l me refl (still o.run o.handles v l (record { issued = λ j c. c; ended = λ j x c. c; times = λ j t c. c }) (λ h. h)) o.known))
@@ -162,16 +163,14 @@ no_path_beside g e v i r line keys told low mine path =
 abbrev looks : ℕ → ℕ → Sat → Sat
 looks i r m = (looked_at m.0 i r, m.1)
 
-claim_by : (b : Bool) (o : Option Claim) (x : Claim) → (b ≡ true → o ≡ Some x) → (b ≡ false → o ≡ Some x) → o ≡ Some x
-claim_by true o x cancelled runs = cancelled refl
-claim_by false o x cancelled runs = runs refl
+either_way : {P : Type 0} (b : Bool) → (b ≡ true → P) → (b ≡ false → P) → P
+either_way true cancelled runs = cancelled refl
+either_way false cancelled runs = runs refl
 
 pub has_line : (w : Words) (k : WordWork) → IsWorkOf w k → Has k.inner.me.0 (λ cl. cl.line ≡ k.line)
-has_line w k x = (
-  x.claim,
-  claim_by k.is_cancelled k.inner.me.0.claim x.claim (λ b. ap (λ (m : Sat). m.0.claim) (x.cancelled b).1) (λ b. ap (λ (m : Sat). m.0.claim) (x.loaded b).now),
-  x.line_is,
-)
+has_line w k x = either_way {P = Has k.inner.me.0 (λ cl. cl.line ≡ k.line)} k.is_cancelled
+    (λ b. (x.claim, ap (λ (m : Sat). m.0.claim) (x.cancelled b).1, x.line_is))
+    (λ b. let l = x.loaded b in (with_taken x.claim l.taken [], ap (λ (m : Sat). m.0.claim) l.now, x.line_is))
 
 pub work_looked : (w : Words) (k : WordWork) (p : table.Seat Content View) → IsWorkOf w k → IsSeatOf w p → (i r : ℕ) → p.me ≡ (looked_at k.inner.me.0 i r, k.inner.me.1) → IsWorkOf w (record k { inner = p })
 work_looked w k p x at i r is = record {
@@ -191,9 +190,10 @@ work_looked w k p x at i r is = record {
   going = x.going;
   untimed = x.untimed;
   fresh = x.fresh;
+  empty = x.empty;
   holds = x.holds;
   cancelled = λ b. ((x.cancelled b).0, is ∙ ap (looks i r) (x.cancelled b).1);
-  loaded = λ b. let l = x.loaded b in record { now = is ∙ ap (looks i r) l.now; stacked = l.stacked; few = l.few; apart = l.apart; has = l.has; only = l.only; all = l.all; ready = l.ready };
+  loaded = λ b. let l = x.loaded b in record { taken = l.taken; now = is ∙ ap (looks i r) l.now; stacked = l.stacked; few = l.few; apart = l.apart; has = l.has; only = l.only; numbered = l.numbered; all = l.all; ready = l.ready };
 }
 
 pub looked_has : (v u : View) (i r line : ℕ) → u ≡ looked_at v i r → Has v (λ cl. cl.line ≡ line) → Has u (λ cl. cl.line ≡ line)

@@ -9,7 +9,7 @@ use Rattle.shared_events.specs.declared.tokens.Pending.{Pending}
 use Rattle.shared_events.specs.declared.tokens.Receipt.{Receipt}
 use Rattle.graph_terms.specs.declared.outcome.End.{End}
 use Rattle.graph_terms.specs.declared.outcome.End.TheVariants.{Done, Faulted, Cancelled, Waiting}
-use Rattle.index_spaces.specs.Column.{ColumnValue}
+use Rattle.index_spaces.specs.Held.{HeldList}
 use Rattle.graph_terms.specs.Graph.{GraphValue}
 use Rattle.graph_terms.specs.Reservations.{Releases}
 use Rattle.run_words.specs.declared.content.Content.{Content}
@@ -24,14 +24,14 @@ use Rattle.run_words.specs.Works.{event_of, DidNothing}
 use Rattle.run_words.proofs.Looks.{code_end}
 
 -- the handle of the line whose work is done
-laden_event : (g : GraphValue) (line k : ℕ) (v : View) (cl : Claim) (left : List (ℕ × Content)) (m : Sat) (held : List (ℕ × ColumnValue)) → Laden g line k v cl left m held → event_of m.0.claim ≡ Some cl.event
-laden_event g line k v cl left m held l = ap (λ (u : View). event_of u.claim) l.now
+laden_event : (g : GraphValue) (line k : ℕ) (v : View) (cl : Claim) (left : List (ℕ × Content)) (m : Sat) (held : HeldList) (numbers : List ℕ) → Laden g line k v cl left m held numbers → event_of m.0.claim ≡ Some cl.event
+laden_event g line k v cl left m held numbers l = ap (λ (u : View). event_of u.claim) l.now
 
-pub done_event : (g : GraphValue) (line : ℕ) (x : End) (v : View) (cl : Claim) (left : List (ℕ × Content)) (m : Sat) (held : List (ℕ × ColumnValue)) → WorkDone g line x v cl left m held → event_of m.0.claim ≡ Some cl.event
-done_event g line Done v cl left m held d = laden_event g line 3 v cl left m held (d.laden (λ e. (let z : end_code Done ≡ end_code Cancelled = ap end_code e in omega (arith, z))))
-done_event g line Faulted v cl left m held d = laden_event g line 3 v cl left m held (d.laden (λ e. (let z : end_code Faulted ≡ end_code Cancelled = ap end_code e in omega (arith, z))))
-done_event g line Cancelled v cl left m held d = ap (λ (y : Sat). event_of y.0.claim) (d.bare refl)
-done_event g line Waiting v cl left m held d = laden_event g line 3 v cl left m held (d.laden (λ e. (let z : end_code Waiting ≡ end_code Cancelled = ap end_code e in omega (arith, z))))
+pub done_event : (g : GraphValue) (line : ℕ) (x : End) (v : View) (cl : Claim) (left : List (ℕ × Content)) (m : Sat) (held : HeldList) (numbers : List ℕ) → WorkDone g line x v cl left m held numbers → event_of m.0.claim ≡ Some cl.event
+done_event g line Done v cl left m held numbers d = laden_event g line 3 v cl left m held numbers (d.laden (λ e. (let z : end_code Done ≡ end_code Cancelled = ap end_code e in omega (arith, z))))
+done_event g line Faulted v cl left m held numbers d = laden_event g line 3 v cl left m held numbers (d.laden (λ e. (let z : end_code Faulted ≡ end_code Cancelled = ap end_code e in omega (arith, z))))
+done_event g line Cancelled v cl left m held numbers d = ap (λ (y : Sat). event_of y.0.claim) (d.bare refl)
+done_event g line Waiting v cl left m held numbers d = laden_event g line 3 v cl left m held numbers (d.laden (λ e. (let z : end_code Waiting ≡ end_code Cancelled = ap end_code e in omega (arith, z))))
 
 -- the event has ended, and its receipt lies in the line's slot
 pub receipted : (line : ℕ) (x : End) (v : View) (cl : Claim) (left : List (ℕ × Content)) (m n : Sat) (receipt : Receipt) → IsEnding line x v cl left m → n ≡ (m.0, (line, EventReceipt receipt) ∷ []) → IsEnding line x v cl ((line, EventReceipt receipt) ∷ []) n

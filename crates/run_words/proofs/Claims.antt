@@ -1,5 +1,5 @@
 -- The step that claims an issued line for its work.
-use Rattle.std.proofs.Common.{◌≡◌, ℕ, ◌<◌, Bool, true, false, inl, inr, List, ◌∷◌, ◌++◌, length, set, get_or, refl, sym, ◌∙◌, ap, subst, arith, cond, get_or-set_same}
+use Rattle.std.proofs.Common.{◌≡◌, ℕ, ◌<◌, ◌+◌, Bool, true, false, inl, inr, List, ◌∷◌, ◌++◌, length, set, get_or, refl, sym, ◌∙◌, ap, subst, arith, cond, get_or-set_same}
 use Rattle.std.specs.Prelude.{Contains, Option, Some, None, ◌↔◌, ◌==◌}
 use Rattle.std.proofs.lemmas.Bool.{true≢false, cases_eq, false_from_ne_true}
 use Rattle.std.proofs.lemmas.Option.{same_Some, get_or_from_slice_get}
@@ -9,7 +9,8 @@ use prog.Atomic.{either}
 use Rattle.atomic_table.specs.Table.{Act, keeps, takes, Valid, Allows, stepped, carried_after}
 use Rattle.atomic_table.proofs.Lists.{exchanged, set_here}
 use Rattle.graph_terms.specs.declared.outcome.End.{End}
-use Rattle.graph_terms.specs.Graph.{GraphValue, never_comes}
+use Rattle.graph_terms.specs.Graph.{GraphValue, columns, never_comes}
+use Rattle.share_words.specs.Shares.{share_count}
 use Rattle.graph_meaning.specs.Evaluation.{evaluation, has_ended}
 use Rattle.basics.specs.Sums.{total}
 use Rattle.shared_events.specs.Seats.{no_event}
@@ -22,18 +23,17 @@ use Rattle.run_state.specs.Run.{LineStage, Unissued, Issued, Out, Ended, Run, st
 use Rattle.run_state.specs.Sound.{Sound}
 use Rattle.run_state.specs.Moves.{claim}
 use Rattle.run_state.specs.Premises.{MayClaim}
-use Rattle.run_state.proofs.Stages.{claim-sound}
+use Rattle.run_words.proofs.RunFacts.{claim-sound}
 use Rattle.run_state.proofs.Public.{started_ends}
 use Rattle.run_words.specs.declared.content.Content.{Content}
 use Rattle.run_words.specs.declared.content.Content.TheVariants.{PendingEvent}
 use Rattle.run_words.specs.declared.view.View.{View}
 use Rattle.run_words.specs.Claims.{Claim, Ground, new_claim}
-use Rattle.run_words.specs.Layout.{size_of}
 use Rattle.run_words.specs.Views.{claim_at, runs_at, issues_at, late_at, owes_at, has_issue_turn, busy}
-use Rattle.run_words.specs.Rule.{LineShown, HasPending, handle_at, Progress, Fits, Shown}
+use Rattle.run_words.specs.Rule.{Loans, LineShown, HasPending, handle_at, Progress, Fits, Shown}
 use Rattle.run_words.specs.Plays.{Sat, claimed_at, HasClaimed, claims, looked_at}
 use Rattle.run_words.specs.Premises.{Sources}
-use Rattle.run_words.proofs.Aside.{aside_staged, progress_on, other_set}
+use Rattle.run_words.proofs.Aside.{aside_staged, lends_same, progress_on, other_set}
 use Rattle.run_words.proofs.Frames.{at_line, issue_turn_again, words_set, slots_set}
 use Rattle.run_words.proofs.Known.{times_on, nothing_new}
 use Rattle.run_words.proofs.Steps.{St, board, sum_same, steps, works_none, claim_here, claim_there}
@@ -57,11 +57,17 @@ module _ (g : GraphValue) (run : Run) (o : Sound g run) (i : ℕ) (stage : stage
   pub not_started : stage_started (stage_at run.stages i) ≡ true → ⊥
   not_started h = true≢false (sym h ∙ ap stage_started stage)
 
-  pub new_progress : (h : Handle) → i < length run.stages → Progress g (claim run i) (new_claim i h)
-  new_progress h there = record {
+  pub new_progress : (loans : Loans) → ((c j : ℕ) → c < length (columns g) → j < share_count g c → loans.holder c j ≡ i + 1 → ⊥) → (h : Handle) → i < length run.stages → Progress g (claim run i) loans (new_claim i h)
+  new_progress loans no_share h there = record {
     stage = get_or-set_same run.stages i Out Unissued there;
     has = λ k ks c. absurd (contains_none {X = ℕ × List ℕ} (k, ks) c);
     only = λ k h. absurd (true≢false (sym (o.on_columns.had_out k i h) ∙ ap stage_out stage));
+    shares = record {
+      differ = tt;
+      each = λ s c. absurd (contains_none s c);
+      all = λ k j l f h. absurd (no_share k j l f h);
+      whole = λ k j h f. absurd (true≢false (sym (o.on_columns.had_out k i h) ∙ ap stage_out stage));
+    };
     puts = λ k. false_from_ne_true _ (λ h. not_started (o.on_columns.back_started k i h));
     arrived = false_from_ne_true _ (λ h. not_started (o.on_phases.arrived_started i h));
     holds = λ l q. false_from_ne_true _ (λ h. not_started (o.on_locks.holder_started l i h));
@@ -120,7 +126,11 @@ module _ (g : GraphValue) (e : Events) (s : St) (o : Shown g e s) (id i : ℕ) (
     | inr n ↦ sym (other_set o.run.stages Unissued i j Out n) ∙ u
   ]
 
-  fits : Fits g e after o.handles w
+  -- a line that is issued has no share
+  no_share : (c j : ℕ) → c < length (columns g) → j < share_count g c → o.loans.holder c j ≡ i + 1 → ⊥
+  no_share c j l f h = true≢false (sym (o.holders c j i l f h) ∙ ap stage_out stage)
+
+  fits : Fits g e after o.loans o.handles w
   fits =
       let f = o.each_view id v me in
       record {
@@ -129,7 +139,7 @@ module _ (g : GraphValue) (e : Events) (s : St) (o : Shown g e s) (id i : ℕ) (
         ended = λ j x c. ended_on j x (f.ended j x c);
         times = λ j t c. times_on o.run after refl ended_on j t (f.times j t c);
         named = f.named;
-        claim = λ c q. subst (Progress g after) (same_Some (new_claim i h) c q) (new_progress g o.run o.sound i stage h there);
+        claim = λ c q. subst (Progress g after o.loans) (same_Some (new_claim i h) c q) (new_progress g o.run o.sound i stage o.loans no_share h there);
         event = λ c q. subst (λ (x : Claim). handle_at o.handles x.line ≡ x.event) (same_Some (new_claim i h) c q) (sym shows.2.named);
         issuing = λ k q. (unissued_on k (f.issuing k q).0, (f.issuing k q).1);
         issuer = f.issuer;
@@ -141,10 +151,10 @@ module _ (g : GraphValue) (e : Events) (s : St) (o : Shown g e s) (id i : ℕ) (
   owes_on k = cond_zero (i == k) ∙ sym (ap (late_at k) idle)
 
   pub claim_rule : Shown g e (board (set s.words i 3) (set s.homes i none) (set s.views id w))
-  claim_rule = steps g e s o id v w me after o.handles (set s.words i 3) (set s.homes i none)
+  claim_rule = steps g e s o id v w me after o.loans o.handles (set s.words i 3) (set s.homes i none)
       (record { names = λ j q. refl; issued = λ j q. issued_on j ∙ q; ended = ended_on; times = times_on o.run after refl ended_on; begins = λ l q. q })
       (λ j u other at. let f = o.each_view j u at in record {
-        claim = λ c q p. progress_on i (aside_staged i Out o.run) c (works_none g e s o id v w me i j u c at (ap busy stage) q) p;
+        claim = λ c q p. progress_on i (aside_staged i Out o.run) (lends_same g i o.run.places o.loans) c (works_none g e s o id v w me i j u c at (ap busy stage) q) p;
         issuing = λ k q. unissued_on k (f.issuing k q).0;
         issue_turn = f.issue_turn;
       })
@@ -162,7 +172,11 @@ module _ (g : GraphValue) (e : Events) (s : St) (o : Shown g e s) (id i : ℕ) (
             omega (arith, t, a, b, c, d, f))
         | inr n ↦ sum_same (runs_at k) s.views id v w me (claim_there k w (new_claim i h) refl (λ q. n (sym q)) ∙ sym (ap (claim_at k) idle)) ∙ (o.works k ∙ ap busy (sym (other_set o.run.stages Unissued i k Out n)))
       ])
-      (at_line g e (size_of g) o.run o.handles (λ k. total (issues_at k) s.views) (λ k. total (owes_at k) s.views) (total has_issue_turn s.views) s.words s.homes o.words
+      (λ c j k l f q. elim (cases_eq k i) [
+        | inl same ↦ absurd (no_share c j l f (subst (λ n. o.loans.holder c j ≡ n + 1) same q))
+        | inr n ↦ ap stage_out (other_set o.run.stages Unissued i k Out n) ∙ o.holders c j k l f q
+      ])
+      (at_line g e o.run o.loans o.handles (λ k. total (issues_at k) s.views) (λ k. total (owes_at k) s.views) (total has_issue_turn s.views) s.words s.homes o.words
       (λ k. total (issues_at k) (set s.views id w)) (λ k. total (owes_at k) (set s.views id w)) (total has_issue_turn (set s.views id w))
       i near Out o.handles (set s.words i 3) (set s.homes i none) (words_set i 3 s.words) (slots_set i none s.homes)
       (λ j n. refl) (λ j n. sum_same (issues_at j) s.views id v w me refl) (λ j. sum_same (owes_at j) s.views id v w me (owes_on j))

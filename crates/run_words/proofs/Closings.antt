@@ -1,6 +1,7 @@
 -- What a table leaves into whose last seat every other was joined.
-use Rattle.std.proofs.Common.{◌≡◌, ℕ, ◌+◌, inl, inr, List, [], length, ⊎_elim, refl, sym, ◌∙◌, ap, subst, arith}
+use Rattle.std.proofs.Common.{◌≡◌, ℕ, zero, suc, ◌+◌, ◌<◌, inl, inr, List, [], length, ⊎_elim, refl, sym, ◌∙◌, ap, subst, arith}
 use Rattle.std.specs.Prelude.{Contains, Some, is_some, slice_index}
+use Rattle.std.proofs.lemmas.Bool.{cases_lt}
 use Rattle.std.proofs.lemmas.Option.{none-some}
 use mathlib.Core.Option.{some}
 use lib.ListN.{get_elem?}
@@ -11,16 +12,19 @@ use Rattle.shared_events.specs.declared.events.Events.{Events}
 use Rattle.run_state.specs.Run.{LineStage, Unissued, Issued, Out, Ending, Ended, Place, Home, Had, Run, stage_at, time_at, place_at}
 use Rattle.run_words.specs.declared.content.IssueState.{IssueState}
 use Rattle.run_words.specs.declared.content.Content.{Content}
-use Rattle.run_words.specs.declared.content.Content.TheVariants.{Nothing, PendingEvent, EventReceipt, Cells, Issuer}
+use Rattle.run_words.specs.declared.content.Content.TheVariants.{Nothing, PendingEvent, EventReceipt, Share, Issuer}
 use Rattle.run_words.specs.declared.view.View.{View}
-use Rattle.run_words.specs.Layout.{size_of, status_word, time_word, turn_word, issue_turn_word, line_slot, column_slot, issue_turn_slot}
-use Rattle.run_words.specs.Rule.{Shown, LineShown, ColumnShown, IssueTurnShown, HasEndedAt, HasHandles, IsIssueState, column_with, handle_at}
+use Rattle.run_words.specs.Layout.{size_of, status_word, time_word, turn_word, issue_turn_word, line_slot, column_slot, share_slot, issue_turn_slot}
+use Rattle.run_words.specs.Lending.{LiesIn}
+use Rattle.share_words.specs.Shares.{share_count}
+use Rattle.run_words.specs.Rule.{Shown, LineShown, ColumnShown, ShareShown, IssueTurnShown, HasEndedAt, HasHandles, IsIssueState, home_content, share_value, column_with, handle_at}
 use Rattle.run_words.specs.Views.{busy, time_code, owes_at}
 use Rattle.run_words.specs.Premises.{HasNoRights}
 use Rattle.run_words.specs.Closing.{LineLeft, IsLeft}
 use Rattle.run_words.proofs.Known.{of_last}
 use Rattle.run_words.proofs.Steps.{St}
-use Rattle.run_words.proofs.Whole.{IsWhole, Rests, rests, idle_ended, alone}
+use Rattle.run_words.proofs.LendingFacts.{place_some, place_none}
+use Rattle.run_words.proofs.Whole.{IsWhole, Rests, rests, idle_out, idle_ended, alone}
 use Rattle.basics.specs.Sums.{total}
 
 -- what was at home in a slot is there
@@ -35,10 +39,19 @@ line_left e h Out w homes slots k home came at b l = absurd (omega (arith, b))
 line_left e h (Ending y) w homes slots k home came at b l = absurd (omega (arith, b))
 line_left e h (Ended y) w homes slots k home came at b l = (EventReceipt l.2.receipt, came k (EventReceipt l.2.receipt) (at ∙ ap some l.2.here), (l.1, l.2.receipt, refl, l.2.of, l.2.named, l.2.told))
 
-column_left : (g : GraphValue) (c : ℕ) (p : Place) (w : ℕ) (homes : List (mathlib.Core.Option.Option Content)) (slots : List Content) (k : ℕ) (home : mathlib.Core.Option.Option Content) → Came homes slots → get_elem? homes k ≡ some home →
-    ((i : ℕ) → p ≡ Had i → ⊥) → ColumnShown g c p w home → (xs : List ℕ) × (p ≡ Home xs) × (get_elem? slots k ≡ some (Cells (column_with g c xs)))
-column_left g c (Home xs) w homes slots k home came at here l = (xs, refl, came k (Cells (column_with g c xs)) (at ∙ ap some l.1))
-column_left g c (Had i) w homes slots k home came at here l = absurd (here i refl)
+column_left : (g : GraphValue) (c d : ℕ) (p : Place) (w : ℕ) (homes : List (mathlib.Core.Option.Option Content)) (slots : List Content) (k : ℕ) (home : mathlib.Core.Option.Option Content) → Came homes slots → get_elem? homes k ≡ some home →
+    ((i : ℕ) → p ≡ Had i → ⊥) → ColumnShown g c d p w home → (xs : List ℕ) × (p ≡ Home xs) × (get_elem? slots k ≡ some (home_content g c d xs))
+column_left g c d (Home xs) w homes slots k home came at here l = (xs, refl, came k (home_content g c d xs) (at ∙ ap some l.1))
+column_left g c d (Had i) w homes slots k home came at here l = absurd (here i refl)
+
+same_cells : (xs ys : List ℕ) → Home xs ≡ Home ys → xs ≡ ys
+same_cells xs ys e = cc
+
+share_left : (g : GraphValue) (c j d : ℕ) (p : Place) (who : ℕ) (homes : List (mathlib.Core.Option.Option Content)) (slots : List Content) (k : ℕ) (home : mathlib.Core.Option.Option Content) (xs : List ℕ) → Came homes slots → get_elem? homes k ≡ some home →
+    ((i : ℕ) → who ≡ i + 1 → ⊥) → p ≡ Home xs → ShareShown g c j d p who home → get_elem? slots k ≡ some (Share (share_value g c j d xs))
+share_left g c j d p zero homes slots k home xs came at none is l =
+    came k (Share (share_value g c j d xs)) (at ∙ ap some (l.2 ∙ ap (λ (ys : List ℕ). some (Share (share_value g c j d ys))) (same_cells l.0 xs (sym l.1 ∙ is))))
+share_left g c j d p (suc i) homes slots k home xs came at none is l = absurd (none i (omega arith))
 
 issue_turn_left : (e : Events) (n : ℕ) (handles : List Handle) (w : ℕ) (homes : List (mathlib.Core.Option.Option Content)) (slots : List Content) (k : ℕ) (home : mathlib.Core.Option.Option Content) → Came homes slots → get_elem? homes k ≡ some home →
     IssueTurnShown e n handles 0 w home → (d : IssueState) × (get_elem? slots k ≡ some (Issuer d)) × IsIssueState e n handles d
@@ -55,6 +68,24 @@ module _ (g : GraphValue) (e : Events) (s : St) (o : Shown g e s) (id : ℕ) (v 
     named_of : HasHandles o.handles v → Contains v.named o.handles
     named_of = ⊎_elim (λ c. c) (λ q. absurd (none-some o.handles (sym free.issue_turn ∙ q)))
 
+    -- nobody has a share
+    none_has : (c j i : ℕ) → c < (size_of g).cols → j < share_count g c → o.loans.holder c j ≡ i + 1 → ⊥
+    none_has c j i near low h = idle_out (stage_at o.run.stages i) (r.idle i) (o.holders c j i near low h)
+
+    -- a column lies in its slot and its places
+    lies : (c : ℕ) (xs : List ℕ) → c < (size_of g).cols → place_at o.run.places c ≡ Home xs → get_elem? slots (column_slot (size_of g) c) ≡ some (home_content g c (o.loans.lending c) xs) → LiesIn g slots c (column_with g c xs)
+    lies c xs near is home = record {
+      lending = o.loans.lending c;
+      home = home;
+      places = λ j within. elim (cases_lt j (share_count g c)) [
+        | inl low ↦ (let l = o.words.shares c j near low in
+            share_left g c j (o.loans.lending c) (place_at o.run.places c) (o.loans.holder c j) s.homes slots (share_slot (size_of g) c j) l.home xs came l.at (λ i. none_has c j i near low) is l.shown
+            ∙ ap (λ (y : Content). some y) (sym (place_some (share_count g c) (o.loans.lending c) (column_with g c xs) j low)))
+        | inr high ↦ came (share_slot (size_of g) c j) Nothing (o.words.spare c j near high within)
+            ∙ ap (λ (y : Content). some y) (sym (place_none (share_count g c) (o.loans.lending c) (column_with g c xs) j high))
+      ];
+    }
+
     left_of : IsLeft g e v o.run o.handles s.words slots
     left_of = record {
       sound = o.sound;
@@ -69,7 +100,8 @@ module _ (g : GraphValue) (e : Events) (s : St) (o : Shown g e s) (id : ℕ) (v 
           let z : total (owes_at i) s.views ≡ 0 = r.none_owing i in omega (arith, t, z));
       values = o.words.values;
       columns = λ c near. (let l = o.words.columns c near in
-          column_left g c (place_at o.run.places c) (slice_index s.words (turn_word (size_of g) c)) s.homes slots (column_slot (size_of g) c) l.home came l.at (r.at_home c) l.shown);
+          let x = column_left g c (o.loans.lending c) (place_at o.run.places c) (slice_index s.words (turn_word (size_of g) c)) s.homes slots (column_slot (size_of g) c) l.home came l.at (r.at_home c) l.shown in
+          (x.0, x.1, lies c x.0 near x.1 x.2));
       locks = o.words.locks;
       clock = o.words.clock;
       issue_turn = (let l = o.words.issue_turn in

@@ -8,7 +8,8 @@ use lib.ListN.{get_elem?}
 use Rattle.atomic_table.specs.Table.{keeps, gives, Allows}
 use Rattle.atomic_table.proofs.Lists.{set_here}
 use Rattle.graph_terms.specs.declared.outcome.End.{End}
-use Rattle.graph_terms.specs.Graph.{GraphValue}
+use Rattle.graph_terms.specs.Graph.{GraphValue, columns}
+use Rattle.share_words.specs.Shares.{share_count}
 use Rattle.basics.specs.Sums.{total}
 use Rattle.shared_events.specs.Views.{IsPendingOf, IsReceiptOf, handle_of, ended_by, fate_of}
 use Rattle.event_table.specs.declared.handle.Handle.{Handle}
@@ -21,18 +22,17 @@ use Rattle.run_words.specs.Claims.{Claim}
 use Rattle.std.proofs.lemmas.List.Elements.{Contains-push_cases, Contains-append_cases, Contains-append_left, Contains-append_right}
 use Rattle.basics.proofs.Sums.{total-set}
 use Rattle.basics.proofs.ListFacts.{contains_none, contains_here}
-use Rattle.run_state.specs.Run.{LineStage, Unissued, Issued, Out, Ending, Ended, Run, is_listed, stage_at, time_at, stage_issued, stage_ended, kept_end}
+use Rattle.run_state.specs.Run.{LineStage, Unissued, Issued, Out, Ending, Ended, Run, is_listed, stage_at, time_at, stage_issued, stage_out, stage_ended, kept_end}
 use Rattle.run_state.specs.Sound.{Sound}
 use Rattle.run_state.specs.Moves.{staged, unclaim, ending, close}
-use Rattle.run_state.proofs.Stages.{ending-sound, close-sound, unclaim-sound}
+use Rattle.run_words.proofs.RunFacts.{ending-sound, close-sound, unclaim-sound}
 use Rattle.run_state.proofs.Public.{stage_there}
 use Rattle.run_words.specs.declared.content.Content.TheVariants.{PendingEvent, EventReceipt}
-use Rattle.run_words.specs.Layout.{size_of}
 use Rattle.run_words.specs.Views.{time_code, claim_at, runs_at, late, issues_at, late_at, owes_at, has_issue_turn, busy, working}
 use Rattle.run_words.specs.Rule.{end_code, fate_for, LineShown, handle_at, Progress, Fits, Shown}
 use Rattle.run_words.specs.Plays.{Sat, on_claim, end_of_code, ending_with, ends, time_claimed, closed_at, closes, line_claimed, unclaims}
 use Rattle.run_words.specs.Premises.{IsBare, IsThrough, IsOver}
-use Rattle.run_words.proofs.Aside.{aside_staged, progress_on, other_set}
+use Rattle.run_words.proofs.Aside.{aside_staged, lends_same, progress_on, other_set}
 use Rattle.run_words.proofs.Frames.{at_line, issue_turn_again, words_set, slots_set, slots_same}
 use Rattle.run_words.proofs.Known.{Learns, times_on, time_is, time_in, nothing_new}
 use Rattle.run_words.proofs.Steps.{St, board, sum_same, steps, claim_goes, works_alone, claim_here, working_issued, working_busy, working_not_over}
@@ -46,7 +46,7 @@ out_shows e h s None k w home is l = let t : LineShown e h Out k w home = subst 
 out_shows e h s (Some x) k w home is l = let t : LineShown e h (Ending x) k w home = subst (λ y. LineShown e h y k w home) is l in (t.0, t.2)
 
 module _ (g : GraphValue) (e : Events) (s : St) (o : Shown g e s) (id : ℕ) (v : View) (me : get_elem? s.views id ≡ some v) (cl : Claim) (has : v.claim ≡ Some cl) where
-  progress : Progress g o.run cl
+  progress : Progress g o.run o.loans cl
   progress = (o.each_view id v me).claim cl has
 
   abbrev i : ℕ
@@ -68,10 +68,12 @@ module _ (g : GraphValue) (e : Events) (s : St) (o : Shown g e s) (id : ℕ) (v 
       let now : stage_at (ending o.run i x).stages i ≡ Ending x = get_or-set_same o.run.stages i (Ending x) Unissued there in
       claim_goes g e s o id v w me cl (ending_with x cl) has refl refl refl (ending o.run i x) (set s.words i (4 + end_code x)) s.homes
       (aside_staged i (Ending x) o.run)
+      refl
       (record {
         stage = now;
         has = progress.has;
         only = progress.only;
+        shares = progress.shares;
         puts = progress.puts;
         arrived = progress.arrived;
         holds = progress.holds;
@@ -89,7 +91,8 @@ module _ (g : GraphValue) (e : Events) (s : St) (o : Shown g e s) (id : ℕ) (v 
         | inl q ↦ subst (λ k. stage_issued (stage_at (ending o.run i x).stages k) ≡ stage_issued (stage_at o.run.stages k)) (sym q) (ap stage_issued now ∙ sym (working_issued cl.ends progress.stage))
         | inr n ↦ ap stage_issued (other_set o.run.stages Unissued i j (Ending x) n)
       ])
-      (at_line g e (size_of g) o.run o.handles (λ k. total (issues_at k) s.views) (λ k. total (owes_at k) s.views) (total has_issue_turn s.views) s.words s.homes o.words
+      (inl th.shares)
+      (at_line g e o.run o.loans o.handles (λ k. total (issues_at k) s.views) (λ k. total (owes_at k) s.views) (total has_issue_turn s.views) s.words s.homes o.words
       (λ k. total (issues_at k) (set s.views id w)) (λ k. total (owes_at k) (set s.views id w)) (total has_issue_turn (set s.views id w))
       i near (Ending x) o.handles (set s.words i (4 + end_code x)) s.homes (words_set i (4 + end_code x) s.words) (slots_same i s.homes)
       (λ j n. refl) (λ j n. sum_same (issues_at j) s.views id v w me refl) (λ j. sum_same (owes_at j) s.views id v w me (ap (late_at j) (sym has)))
@@ -125,11 +128,11 @@ module _ (g : GraphValue) (e : Events) (s : St) (o : Shown g e s) (id : ℕ) (v 
     owes_on : (k : ℕ) → owes_at k w ≡ owes_at k v
     owes_on k = ap (late_at k) gone ∙ sym (ap (late_at k) has ∙ elim (cases_eq i k) [ inl q ↦ late_here k cl q ∙ nothing_owed | inr n ↦ late_there k cl n ])
 
-    pub leave_rule : w.mine ≡ v.mine → w.births ≡ v.births → w.splits ≡ v.splits → Fits g e after o.handles w → Learns o.run after o.handles o.handles v w → Shown g e (board (set s.words i x) (set s.homes i (some y)) (set s.views id w))
-    leave_rule em eb es fits learns = steps g e s o id v w me after o.handles (set s.words i x) (set s.homes i (some y))
+    pub leave_rule : w.mine ≡ v.mine → w.births ≡ v.births → w.splits ≡ v.splits → ((c j : ℕ) → c < length (columns g) → j < share_count g c → o.loans.holder c j ≡ i + 1 → ⊥) → Fits g e after o.loans o.handles w → Learns o.run after o.handles o.handles v w → Shown g e (board (set s.words i x) (set s.homes i (some y)) (set s.views id w))
+    leave_rule em eb es no_share fits learns = steps g e s o id v w me after o.loans o.handles (set s.words i x) (set s.homes i (some y))
         (record { names = λ j q. refl; issued = λ j q. issued_on j ∙ q; ended = ended_on; times = times_on o.run after refl ended_on; begins = λ l q. q })
         (λ j u other at. let f = o.each_view j u at in record {
-          claim = λ c q p. progress_on i (aside_staged i t o.run) c (works_alone g e s o id v w me i j u cl c other at has refl q) p;
+          claim = λ c q p. progress_on i (aside_staged i t o.run) (lends_same g i o.run.places o.loans) c (works_alone g e s o id v w me i j u cl c other at has refl q) p;
           issuing = λ k q. unissued_on k (f.issuing k q).0;
           issue_turn = f.issue_turn;
         })
@@ -147,7 +150,11 @@ module _ (g : GraphValue) (e : Events) (s : St) (o : Shown g e s) (id : ℕ) (v 
               omega (arith, m, a, b, c, d, f))
           | inr n ↦ sum_same (runs_at k) s.views id v w me (ap (claim_at k) gone ∙ sym (ap (claim_at k) has ∙ ap (λ b. cond b 1 0) (ne_eqb i k (λ q. n (sym q))))) ∙ (o.works k ∙ ap busy (sym (other_set o.run.stages Unissued i k t n)))
         ])
-        (at_line g e (size_of g) o.run o.handles (λ k. total (issues_at k) s.views) (λ k. total (owes_at k) s.views) (total has_issue_turn s.views) s.words s.homes o.words
+        (λ c j k l f h. elim (cases_eq k i) [
+          | inl q ↦ absurd (no_share c j l f (subst (λ n. o.loans.holder c j ≡ n + 1) q h))
+          | inr n ↦ ap stage_out (other_set o.run.stages Unissued i k t n) ∙ o.holders c j k l f h
+        ])
+        (at_line g e o.run o.loans o.handles (λ k. total (issues_at k) s.views) (λ k. total (owes_at k) s.views) (total has_issue_turn s.views) s.words s.homes o.words
         (λ k. total (issues_at k) (set s.views id w)) (λ k. total (owes_at k) (set s.views id w)) (total has_issue_turn (set s.views id w))
         i near t o.handles (set s.words i x) (set s.homes i (some y)) (words_set i x s.words) (slots_set i (some y) s.homes)
         (λ j n. refl) (λ j n. sum_same (issues_at j) s.views id v w me (ap (Rattle.run_words.specs.Views.number_at j) ei)) (λ j. sum_same (owes_at j) s.views id v w me (owes_on j))
@@ -207,7 +214,7 @@ module _ (g : GraphValue) (e : Events) (s : St) (o : Shown g e s) (id : ℕ) (v 
           new_handles = inl (refl, λ q. q);
         }
 
-    close_fits : Fits g e (close o.run i x) o.handles (closed_at v i x)
+    close_fits : Fits g e (close o.run i x) o.loans o.handles (closed_at v i x)
     close_fits =
         let f = o.each_view id v me in
         let w : View = closed_at v i x in
@@ -238,7 +245,7 @@ module _ (g : GraphValue) (e : Events) (s : St) (o : Shown g e s) (id : ℕ) (v 
         }
 
     pub close_rule : Shown g e (board (set s.words i (8 + end_code x)) (set s.homes i (some (EventReceipt receipt))) (set s.views id (closed_at v i x)))
-    close_rule = leave_rule (Ended x) refl refl paid close_sound (8 + end_code x) (EventReceipt receipt) receipt_shown (closed_at v i x) refl refl refl refl refl refl close_fits close_learns
+    close_rule = leave_rule (Ended x) refl refl paid close_sound (8 + end_code x) (EventReceipt receipt) receipt_shown (closed_at v i x) refl refl refl refl refl refl (λ c j l f h. true≢false (sym (o.holders c j i l f h) ∙ ap stage_out (progress.stage ∙ ap working over.ending))) close_fits close_learns
 
   -- given up
   module _ (bare : IsBare cl) (pending : Pending) (of : IsPendingOf e pending) (named : handle_of pending ≡ cl.event) where
@@ -261,7 +268,7 @@ module _ (g : GraphValue) (e : Events) (s : St) (o : Shown g e s) (id : ℕ) (v 
     abbrev w : View
     w = record v { gave_up = v.gave_up ++ i ∷ []; claim = None }
 
-    unclaim_fits : Fits g e (unclaim o.run i) o.handles w
+    unclaim_fits : Fits g e (unclaim o.run i) o.loans o.handles w
     unclaim_fits =
         let f = o.each_view id v me in
         record {
@@ -279,7 +286,7 @@ module _ (g : GraphValue) (e : Events) (s : St) (o : Shown g e s) (id : ℕ) (v 
         }
 
     pub unclaim_rule : Shown g e (board (set s.words i 2) (set s.homes i (some (PendingEvent pending))) (set s.views id w))
-    unclaim_rule = leave_rule Issued refl refl free_of unclaim_sound 2 (PendingEvent pending) pending_shown w refl refl refl refl refl refl unclaim_fits
+    unclaim_rule = leave_rule Issued refl refl free_of unclaim_sound 2 (PendingEvent pending) pending_shown w refl refl refl refl refl refl (λ c j l f h. let m = progress.shares.all c j l f h in contains_none m.0 (subst (λ ss. Contains ss m.0) bare.shares m.1)) unclaim_fits
         (nothing_new o.run (unclaim o.run i) o.handles v w refl (λ j q. sym (issued_on Issued refl refl free_of unclaim_sound 2 (PendingEvent pending) pending_shown w refl refl refl j) ∙ q)
         (λ j y q. elim (cases_eq j i) [
           | inl is ↦ absurd (true≢false (sym (ap stage_ended q) ∙ (ap (λ k. stage_ended (stage_at (unclaim o.run i).stages k)) is ∙ ap stage_ended (now_at Issued refl refl free_of unclaim_sound 2 (PendingEvent pending) pending_shown w refl refl refl))))

@@ -1,5 +1,5 @@
 -- The steps that put an arrival in, draw a time and store it.
-use Rattle.std.proofs.Common.{◌≡◌, ◌≢◌, ℕ, ◌<◌, ◌≤◌, ◌+◌, ◌%◌, ◌^◌, Bool, true, false, List, [], ◌∷◌, ◌++◌, length, set, get_or, refl, sym, ◌∙◌, ap, subst, arith, get_or-set_same, cond, eq-eqb, ne_eqb}
+use Rattle.std.proofs.Common.{inr, ◌≡◌, ◌≢◌, ℕ, ◌<◌, ◌≤◌, ◌+◌, ◌%◌, ◌^◌, Bool, true, false, List, [], ◌∷◌, ◌++◌, length, set, get_or, refl, sym, ◌∙◌, ap, subst, arith, get_or-set_same, cond, eq-eqb, ne_eqb}
 use Rattle.std.specs.Prelude.{Option, Some, None, slice_get, slice_index}
 use mathlib.Core.Option.{some}
 use lib.ListN.{get_elem?}
@@ -19,9 +19,7 @@ use Rattle.graph_terms.specs.declared.verb.Verb.TheVariants.{Phase}
 use Rattle.run_state.specs.Run.{is_listed, time_at, stage_out}
 use Rattle.run_state.specs.Sound.{value_for}
 use Rattle.run_state.specs.Moves.{arrive, draw}
-use Rattle.run_state.proofs.Phases.{arrive-sound}
-use Rattle.run_state.proofs.Times.{draw-sound}
-use Rattle.run_state.proofs.QuietTrace.{clock_small}
+use Rattle.run_words.proofs.RunFacts.{arrive-sound, draw-sound, clock_small}
 use Rattle.run_state.proofs.Public.{listed_here, listed_there, stage_there}
 use Rattle.run_words.specs.Layout.{size_of, value_word, time_word, clock_word}
 use Rattle.run_words.specs.Views.{time_code, late, issues_at, late_at, owes_at, has_issue_turn, working}
@@ -47,7 +45,7 @@ late_none true t q = refl
 late_none false t q = ap time_code q
 
 module _ (g : GraphValue) (e : Events) (s : St) (o : Shown g e s) (id : ℕ) (v : View) (me : get_elem? s.views id ≡ some v) (cl : Claim) (has : v.claim ≡ Some cl) where
-  progress : Progress g o.run cl
+  progress : Progress g o.run o.loans cl
   progress = (o.each_view id v me).claim cl has
 
   abbrev i : ℕ
@@ -75,10 +73,12 @@ module _ (g : GraphValue) (e : Events) (s : St) (o : Shown g e s) (id : ℕ) (v 
       let y : ℕ = f (get_or s.words (value_word z p) 0) in
       claim_goes g e s o id v w me cl (put_in cl) has refl refl refl (arrive o.run o' i p x) (set s.words (value_word z p) y) s.homes
       (aside_arrive o' i p x o.run)
+      refl
       (record {
         stage = progress.stage;
         has = progress.has;
         only = progress.only;
+        shares = progress.shares;
         puts = progress.puts;
         arrived = pushed_here o.run.arrived i;
         holds = progress.holds;
@@ -87,7 +87,8 @@ module _ (g : GraphValue) (e : Events) (s : St) (o : Shown g e s) (id : ℕ) (v 
       })
       (arrive-sound o.sound o' i p x (record { is_out = ap stage_out (progress.stage ∙ ap working going); arrives = brings; not_cancelled = real; not_arrived = progress.arrived ∙ new; by_barrier = barrier }))
       (λ j. refl)
-      (at_value g e z o.run o.handles (λ k. total (issues_at k) s.views) (λ k. total (owes_at k) s.views) (total has_issue_turn s.views) s.words s.homes o.words
+      (inr refl)
+      (at_value g e o.run o.loans o.handles (λ k. total (issues_at k) s.views) (λ k. total (owes_at k) s.views) (total has_issue_turn s.views) s.words s.homes o.words
       (λ k. total (issues_at k) (set s.views id w)) (λ k. total (owes_at k) (set s.views id w)) (total has_issue_turn (set s.views id w))
       (λ k. sum_same (issues_at k) s.views id v w me refl)
       p (combined o' (slice_index o.run.values p) x) near_p (o.run.arrived ++ i ∷ []) (set s.words (value_word z p) y) (words_set (value_word z p) y s.words)
@@ -117,10 +118,12 @@ module _ (g : GraphValue) (e : Events) (s : St) (o : Shown g e s) (id : ℕ) (v 
         subst (λ (y : ℕ). Shown g e (board (set s.words (clock_word z) y) s.homes (set s.views id w))) (sym next)
             (claim_goes g e s o id v w me cl (drawn r cl) has refl refl refl (draw o.run i) (set s.words (clock_word z) (o.run.clock + 1)) s.homes
             (aside_draw i o.run)
+            refl
             (record {
               stage = progress.stage;
               has = progress.has;
               only = progress.only;
+              shares = progress.shares;
               puts = progress.puts;
               arrived = progress.arrived;
               holds = progress.holds;
@@ -129,8 +132,9 @@ module _ (g : GraphValue) (e : Events) (s : St) (o : Shown g e s) (id : ℕ) (v 
             })
             (draw-sound o.sound i (record { is_out = ap stage_out (progress.stage ∙ ap working going); untimed = progress.time ∙ untimed; holds = λ l a n. progress.holds l a ∙ held l a n }))
             (λ j. refl)
-            (subst (λ run. WordsShow g e z run o.handles (λ k. total (issues_at k) (set s.views id w)) (λ k. total (owes_at k) (set s.views id w)) (total has_issue_turn (set s.views id w)) (set s.words (clock_word z) (o.run.clock + 1)) s.homes) (sym run')
-            (at_clock g e z o.run o.handles (λ k. total (issues_at k) s.views) (λ k. total (owes_at k) s.views) (total has_issue_turn s.views) s.words s.homes o.words
+            (inr refl)
+            (subst (λ run. WordsShow g e z run o.loans o.handles (λ k. total (issues_at k) (set s.views id w)) (λ k. total (owes_at k) (set s.views id w)) (total has_issue_turn (set s.views id w)) (set s.words (clock_word z) (o.run.clock + 1)) s.homes) (sym run')
+            (at_clock g e o.run o.loans o.handles (λ k. total (issues_at k) s.views) (λ k. total (owes_at k) s.views) (total has_issue_turn s.views) s.words s.homes o.words
             (λ k. total (issues_at k) (set s.views id w)) (λ k. total (owes_at k) (set s.views id w)) (total has_issue_turn (set s.views id w))
             (λ k. sum_same (issues_at k) s.views id v w me refl)
             i r (set s.words (clock_word z) (o.run.clock + 1)) (words_set (clock_word z) (o.run.clock + 1) s.words)
@@ -157,10 +161,12 @@ module _ (g : GraphValue) (e : Events) (s : St) (o : Shown g e s) (id : ℕ) (v 
       let here : get_or (set s.words (time_word z i) (t + 1)) (time_word z i) 0 ≡ t + 1 = get_or-set_same s.words (time_word z i) (t + 1) 0 (let d = o.words.wide in let n = near in omega (arith, d, n)) in
       claim_goes g e s o id v w me cl (has_stored cl) has refl refl refl o.run (set s.words (time_word z i) (t + 1)) s.homes
       (aside_same i o.run)
+      refl
       (record {
         stage = progress.stage;
         has = progress.has;
         only = progress.only;
+        shares = progress.shares;
         puts = progress.puts;
         arrived = progress.arrived;
         holds = progress.holds;
@@ -168,7 +174,8 @@ module _ (g : GraphValue) (e : Events) (s : St) (o : Shown g e s) (id : ℕ) (v 
         freed = progress.freed;
       })
       o.sound (λ j. refl)
-      (at_time g e z o.run o.handles (λ k. total (issues_at k) s.views) (λ k. total (owes_at k) s.views) (total has_issue_turn s.views) s.words s.homes o.words
+      (inr refl)
+      (at_time g e o.run o.loans o.handles (λ k. total (issues_at k) s.views) (λ k. total (owes_at k) s.views) (total has_issue_turn s.views) s.words s.homes o.words
       (λ k. total (issues_at k) (set s.views id w)) (λ k. total (owes_at k) (set s.views id w)) (total has_issue_turn (set s.views id w))
       (λ k. sum_same (issues_at k) s.views id v w me refl)
       i near (set s.words (time_word z i) (t + 1)) (words_set (time_word z i) (t + 1) s.words)

@@ -23,7 +23,7 @@ use Rattle.run_words.specs.Claims.{Claim}
 use Rattle.graph_terms.proofs.Public.{passes_below, acquire_one, one_release}
 use Rattle.run_state.specs.Run.{Ended, is_listed, stage_at, list_at, stage_out, stage_over, stage_ended, kept_end}
 use Rattle.run_state.specs.Moves.{inserted, hold, let_go, free, without}
-use Rattle.run_state.proofs.Locks.{hold-sound, let_go-sound, free-sound}
+use Rattle.run_words.proofs.RunFacts.{hold-sound, let_go-sound, free-sound}
 use Rattle.run_state.proofs.Public.{listed_here, listed_without, inserted_here, inserted_cases}
 use Rattle.run_state.specs.Sound.{IsOpenTo}
 use Rattle.run_words.specs.Layout.{size_of, lock_word, half, alone_code}
@@ -56,7 +56,7 @@ none_in [] h = refl
 none_in (x ∷ xs) h = absurd (h x (listed_here x xs))
 
 module _ (g : GraphValue) (e : Events) (s : St) (o : Shown g e s) (id : ℕ) (v : View) (me : get_elem? s.views id ≡ some v) (l : ℕ) (cl : Claim) (has : v.claim ≡ Some cl) (near : l < length (locks g)) where
-  progress : Progress g o.run cl
+  progress : Progress g o.run o.loans cl
   progress = (o.each_view id v me).claim cl has
 
   there : l < length o.run.holders
@@ -103,10 +103,10 @@ module _ (g : GraphValue) (e : Events) (s : St) (o : Shown g e s) (id : ℕ) (v 
       omega (arith, now, then, fewer, most, few)
 
   lock_words : (gone : List ℕ) (x : ℕ) (qs freed : List ℕ) (d : Claim) → x ≡ lock_code g qs → ((k : ℕ) → late_at k (Some d) ≡ late_at k (Some cl))
-      → WordsShow g e (size_of g) (record o.run { holders = set o.run.holders l qs; freed = freed }) o.handles (λ k. total (issues_at k) (set s.views id (record v { let_go = gone; claim = Some d }))) (λ k. total (owes_at k) (set s.views id (record v { let_go = gone; claim = Some d }))) (total has_issue_turn (set s.views id (record v { let_go = gone; claim = Some d }))) (set s.words (lock_word (size_of g) l) x) s.homes
+      → WordsShow g e (size_of g) (record o.run { holders = set o.run.holders l qs; freed = freed }) o.loans o.handles (λ k. total (issues_at k) (set s.views id (record v { let_go = gone; claim = Some d }))) (λ k. total (owes_at k) (set s.views id (record v { let_go = gone; claim = Some d }))) (total has_issue_turn (set s.views id (record v { let_go = gone; claim = Some d }))) (set s.words (lock_word (size_of g) l) x) s.homes
   lock_words gone x qs freed d code same =
       let w : View = record v { let_go = gone; claim = Some d } in
-      at_lock g e (size_of g) o.run o.handles (λ k. total (issues_at k) s.views) (λ k. total (owes_at k) s.views) (total has_issue_turn s.views) s.words s.homes o.words
+      at_lock g e o.run o.loans o.handles (λ k. total (issues_at k) s.views) (λ k. total (owes_at k) s.views) (total has_issue_turn s.views) s.words s.homes o.words
       (λ k. total (issues_at k) (set s.views id w)) (λ k. total (owes_at k) (set s.views id w)) (total has_issue_turn (set s.views id w))
       (λ k. sum_same (issues_at k) s.views id v w me refl)
       l near qs freed (set s.words (lock_word (size_of g) l) x) (words_set (lock_word (size_of g) l) x s.words)
@@ -123,10 +123,12 @@ module _ (g : GraphValue) (e : Events) (s : St) (o : Shown g e s) (id : ℕ) (v 
       let qs : List ℕ = inserted i ks in
       claim_goes g e s o id v (with_claim v (holding true cl)) me cl (holding true cl) has refl refl refl (hold o.run l i) (set s.words (lock_word (size_of g) l) x) s.homes
       (aside_hold l i o.run)
+      refl
       (record {
         stage = progress.stage;
         has = progress.has;
         only = progress.only;
+        shares = progress.shares;
         puts = progress.puts;
         arrived = progress.arrived;
         holds = λ k q. subst (λ n. is_listed (list_at (set o.run.holders l qs) n) i ≡ true) (acquire_one g i l k acquires q) (ap (λ ks. is_listed ks i) (get_or-set_same o.run.holders l qs [] there) ∙ inserted_here i ks);
@@ -135,6 +137,7 @@ module _ (g : GraphValue) (e : Events) (s : St) (o : Shown g e s) (id : ℕ) (v 
       })
       (hold-sound o.sound l i (record { is_out = ap stage_out (progress.stage ∙ ap working going); acquires = acquires; not_cancelled = real; is_free = free }))
       (λ j. refl)
+      (inr refl)
       (lock_words v.let_go x qs o.run.freed (holding true cl) code (λ k. refl))
 
   -- taken alone, where none holds
@@ -170,10 +173,12 @@ module _ (g : GraphValue) (e : Events) (s : St) (o : Shown g e s) (id : ℕ) (v 
       let qs : List ℕ = without i ks in
       claim_goes g e s o id v (parted v cl) me cl (holding false cl) has refl refl refl (let_go o.run l i) (set s.words (lock_word (size_of g) l) x) s.homes
       (aside_let_go l i o.run)
+      refl
       (record {
         stage = progress.stage;
         has = progress.has;
         only = progress.only;
+        shares = progress.shares;
         puts = progress.puts;
         arrived = progress.arrived;
         holds = λ k q. subst (λ n. is_listed (list_at (set o.run.holders l qs) n) i ≡ false) (acquire_one g i l k acquires q)
@@ -183,6 +188,7 @@ module _ (g : GraphValue) (e : Events) (s : St) (o : Shown g e s) (id : ℕ) (v 
       })
       (let_go-sound o.sound l i (record { acquires = acquires; untimed = ap Rattle.std.specs.Prelude.is_some (progress.time ∙ untimed) }))
       (λ j. refl)
+      (inr refl)
       (lock_words (v.let_go ++ i ∷ []) x qs o.run.freed (holding false cl) code (λ k. refl))
 
   -- freed by the release of an acquire that is ended and done
@@ -203,10 +209,12 @@ module _ (g : GraphValue) (e : Events) (s : St) (o : Shown g e s) (id : ℕ) (v 
         let differ : i ≡ q → ⊥ = λ h. true≢false (sym (ap stage_ended acquire_ended) ∙ (ap (λ k. stage_ended (stage_at o.run.stages k)) (sym h) ∙ ap stage_ended (progress.stage ∙ ap working over))) in
         claim_goes g e s o id v (with_claim v (has_freed cl)) me cl (has_freed cl) has refl refl refl (free o.run i l q) (set s.words (lock_word (size_of g) l) y) s.homes
         (aside_free i l q o.run (ap stage_ended acquire_ended))
+        refl
         (record {
           stage = progress.stage;
           has = progress.has;
           only = progress.only;
+          shares = progress.shares;
           puts = progress.puts;
           arrived = progress.arrived;
           holds = λ k a. listed_set o.run.holders l i qs (without_beside q i ks differ) k ∙ progress.holds k a;
@@ -215,6 +223,7 @@ module _ (g : GraphValue) (e : Events) (s : St) (o : Shown g e s) (id : ℕ) (v 
         })
         (free-sound o.sound i l q (record { is_over = ap stage_over (progress.stage ∙ ap working over); releases = releases; acquires = acquires; acquire_ended = ap stage_ended acquire_ended; acquire_done = acquire_done }))
         (λ j. refl)
+        (inr refl)
         (lock_words v.let_go y qs (i ∷ o.run.freed) (has_freed cl) code (λ k. refl))
 
 -- a word that is loaded, and one that is found to be what the line asks for

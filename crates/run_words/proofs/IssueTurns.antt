@@ -88,7 +88,7 @@ module _ (g : GraphValue) (e : Events) (s : St) (o : Shown g e s) (id : ℕ) (v 
         (still o.run o.handles v w (record { issued = λ j c. Contains-append_left v.issued (numbers_below (length o.handles)) j c; ended = λ j x c. c; times = λ j t c. c })
         (λ _. inl (Contains-append_right v.named (o.handles ∷ []) o.handles (contains_here o.handles []))))
         (set s.words (issue_turn_word z) 1) (set s.homes (issue_turn_slot z) none)
-        (at_issue_turn g e z o.run o.handles (λ k. total (issues_at k) s.views) (λ k. total (owes_at k) s.views) (total has_issue_turn s.views) s.words s.homes o.words
+        (at_issue_turn g e o.run o.loans o.handles (λ k. total (issues_at k) s.views) (λ k. total (owes_at k) s.views) (total has_issue_turn s.views) s.words s.homes o.words
         (λ k. total (issues_at k) (set s.views id w)) (λ k. total (owes_at k) (set s.views id w)) (total has_issue_turn (set s.views id w))
         (λ k. sum_same (issues_at k) s.views id v w me refl)
         (set s.words (issue_turn_word z) 1) (set s.homes (issue_turn_slot z) none) (words_set (issue_turn_word z) 1 s.words) (slots_set (issue_turn_slot z) none s.homes)
@@ -150,7 +150,7 @@ module _ (g : GraphValue) (e : Events) (s : St) (o : Shown g e s) (id : ℕ) (v 
         (λ q. Contains-append_right v.named (named_by v.issue_turn) o.handles (subst (λ d. Contains (named_by d) o.handles) (sym q) (contains_here o.handles [])))
         h)))
         (set s.words (issue_turn_word z) 0) (set s.homes (issue_turn_slot z) (some (Issuer issue_state)))
-        (at_issue_turn g e z o.run o.handles (λ k. total (issues_at k) s.views) (λ k. total (owes_at k) s.views) (total has_issue_turn s.views) s.words s.homes o.words
+        (at_issue_turn g e o.run o.loans o.handles (λ k. total (issues_at k) s.views) (λ k. total (owes_at k) s.views) (total has_issue_turn s.views) s.words s.homes o.words
         (λ k. total (issues_at k) (set s.views id w')) (λ k. total (owes_at k) (set s.views id w')) (total has_issue_turn (set s.views id w'))
         (λ k. sum_same (issues_at k) s.views id v w' me refl)
         (set s.words (issue_turn_word z) 0) (set s.homes (issue_turn_slot z) (some (Issuer issue_state))) (words_set (issue_turn_word z) 0 s.words) (slots_set (issue_turn_slot z) (some (Issuer issue_state)) s.homes)

@@ -18,20 +18,20 @@ use Rattle.event_table.specs.declared.handle.Handle.{Handle}
 use Rattle.shared_events.specs.declared.tokens.Pending.{Pending}
 use Rattle.shared_events.specs.declared.events.Events.{Events}
 use Rattle.basics.proofs.Sums.{total-set, term_le, terms_le}
-use Rattle.run_state.specs.Run.{LineStage, Unissued, Issued, Out, Ending, Ended, Run, stage_at, stage_issued, stage_ended}
+use Rattle.run_state.specs.Run.{LineStage, Unissued, Issued, Out, Ending, Ended, Run, stage_at, stage_issued, stage_out, stage_ended}
 use Rattle.run_state.specs.Sound.{Sound}
 use Rattle.run_words.specs.declared.content.Content.{Content}
 use Rattle.run_words.specs.declared.view.View.{View}
 use lib.Seq.{set-get_or}
 use Rattle.basics.proofs.ListFacts.{contains_here, contains_there}
 use Rattle.run_state.specs.Moves.{issue}
-use Rattle.run_state.proofs.Stages.{issue-sound}
+use Rattle.run_words.proofs.RunFacts.{issue-sound}
 use Rattle.run_words.specs.declared.content.Content.TheVariants.{Nothing, PendingEvent}
 use Rattle.run_words.specs.Layout.{size_of, issue_turn_word}
 use Rattle.run_words.specs.Views.{runs_at, number_at, issues_at, late_at, owes_at, turn_of, has_issue_turn, busy}
 use Rattle.run_words.specs.Rule.{LineShown, IssueTurnShown, handle_at, AreHandles, WordsShow, Shown}
 use Rattle.run_words.specs.Plays.{Sat, issuing_at, begins_issue, issues, gives_up_issue}
-use Rattle.run_words.proofs.Aside.{aside_staged, progress_on, other_set}
+use Rattle.run_words.proofs.Aside.{aside_staged, lends_same, progress_on, other_set}
 use Rattle.run_words.proofs.Frames.{at_line, issue_turn_again, words_set, slots_set}
 use Rattle.run_words.proofs.Known.{Learns, times_on, still}
 use Rattle.run_words.proofs.Steps.{St, board, sum_same, steps, run_stays, working_issued}
@@ -108,11 +108,11 @@ module _ (g : GraphValue) (e : Events) (s : St) (o : Shown g e s) (id : ℕ) (v 
   -- the stage stays unissued, and the seats' claims do
   unissued_words : stage_at o.run.stages i ≡ Unissued → (w : View) (x : ℕ) (home : mathlib.Core.Option.Option Content) → (w.claim ≡ v.claim) → (w.issue_turn ≡ v.issue_turn)
       → ((j : ℕ) → (j ≡ i → ⊥) → issues_at j w ≡ issues_at j v) → LineShown e (handle_at o.handles i) Unissued (total (issues_at i) (set s.views id w)) x home
-      → WordsShow g e (size_of g) o.run o.handles (λ k. total (issues_at k) (set s.views id w)) (λ k. total (owes_at k) (set s.views id w)) (total has_issue_turn (set s.views id w)) (set s.words i x) (set s.homes i home)
+      → WordsShow g e (size_of g) o.run o.loans o.handles (λ k. total (issues_at k) (set s.views id w)) (λ k. total (owes_at k) (set s.views id w)) (total has_issue_turn (set s.views id w)) (set s.words i x) (set s.homes i home)
   unissued_words stage w x home ec ed others shown =
-      subst (λ (l : List LineStage). WordsShow g e (size_of g) (record o.run { stages = l }) o.handles (λ k. total (issues_at k) (set s.views id w)) (λ k. total (owes_at k) (set s.views id w)) (total has_issue_turn (set s.views id w)) (set s.words i x) (set s.homes i home))
+      subst (λ (l : List LineStage). WordsShow g e (size_of g) (record o.run { stages = l }) o.loans o.handles (λ k. total (issues_at k) (set s.views id w)) (λ k. total (owes_at k) (set s.views id w)) (total has_issue_turn (set s.views id w)) (set s.words i x) (set s.homes i home))
       (ap (set o.run.stages i) (sym stage) ∙ set-get_or o.run.stages i Unissued)
-      (at_line g e (size_of g) o.run o.handles (λ k. total (issues_at k) s.views) (λ k. total (owes_at k) s.views) (total has_issue_turn s.views) s.words s.homes o.words
+      (at_line g e o.run o.loans o.handles (λ k. total (issues_at k) s.views) (λ k. total (owes_at k) s.views) (total has_issue_turn s.views) s.words s.homes o.words
       (λ k. total (issues_at k) (set s.views id w)) (λ k. total (owes_at k) (set s.views id w)) (total has_issue_turn (set s.views id w))
       i near Unissued o.handles (set s.words i x) (set s.homes i home) (words_set i x s.words) (slots_set i home s.homes)
       (λ j n. refl) (λ j n. sum_same (issues_at j) s.views id v w me (others j n)) (λ j. sum_same (owes_at j) s.views id v w me (ap (late_at j) ec))
@@ -301,7 +301,7 @@ module _ (g : GraphValue) (e : Events) (s : St) (o : Shown g e s) (id : ℕ) (v 
           let f = o.each_view id v me in
           let issue_turns : total has_issue_turn (set s.views id u') ≡ total has_issue_turn s.views = sum_same has_issue_turn s.views id v u' me (sym (ap turn_of turn)) in
           let some_issue_turn : 0 < total has_issue_turn s.views = (let t = term_le has_issue_turn s.views id v me in let a : has_issue_turn v ≡ 1 = ap turn_of turn in omega (arith, t, a)) in
-          steps g e s o id v u' me after then (set s.words i 2) (set s.homes i (some (PendingEvent pending)))
+          steps g e s o id v u' me after o.loans then (set s.words i 2) (set s.homes i (some (PendingEvent pending)))
           (record {
             names = λ j q. at_append o.handles h no_event j (λ r. let a = (o.are_handles.each_issued j).0 q in absurd (omega (arith, a, r)));
             issued = issued_on;
@@ -310,7 +310,7 @@ module _ (g : GraphValue) (e : Events) (s : St) (o : Shown g e s) (id : ℕ) (v 
             begins = begins_on;
           })
           (λ j u other at. let fu = o.each_view j u at in record {
-            claim = λ c q p. progress_on i (aside_staged i Issued o.run) c (λ r. true≢false (sym (working_issued c.ends p.stage) ∙ ap stage_issued (ap (stage_at o.run.stages) r ∙ stage'))) p;
+            claim = λ c q p. progress_on i (aside_staged i Issued o.run) (lends_same g i o.run.places o.loans) c (λ r. true≢false (sym (working_issued c.ends p.stage) ∙ ap stage_issued (ap (stage_at o.run.stages) r ∙ stage'))) p;
             issuing = λ k q. let l = fu.issuer k q in absurd (nobody_else j u l.0 other at l.1);
             issue_turn = λ l q. absurd (nobody_else j u l other at q);
           })
@@ -321,7 +321,7 @@ module _ (g : GraphValue) (e : Events) (s : St) (o : Shown g e s) (id : ℕ) (v 
             ended = λ j x c. ended_on j x (f.ended j x c);
             times = λ j t c. times_on o.run after refl ended_on j t (f.times j t c);
             named = λ l c. begins_on l (f.named l c);
-            claim = λ c q. let p = f.claim c q in progress_on i (aside_staged i Issued o.run) c (λ r. true≢false (sym (working_issued c.ends p.stage) ∙ ap stage_issued (ap (stage_at o.run.stages) r ∙ stage'))) p;
+            claim = λ c q. let p = f.claim c q in progress_on i (aside_staged i Issued o.run) (lends_same g i o.run.places o.loans) c (λ r. true≢false (sym (working_issued c.ends p.stage) ∙ ap stage_issued (ap (stage_at o.run.stages) r ∙ stage'))) p;
             event = λ c q. at_append o.handles h no_event c.line (λ r. let a = (o.are_handles.each_issued c.line).0 (working_issued c.ends (f.claim c q).stage) in absurd (omega (arith, a, r))) ∙ f.event c q;
             issuing = λ k q. absurd (none-some k q);
             issuer = λ k q. absurd (none-some k q);
@@ -332,7 +332,11 @@ module _ (g : GraphValue) (e : Events) (s : St) (o : Shown g e s) (id : ℕ) (v 
             | inl q ↦ ap (λ n. busy (stage_at o.run.stages n)) q ∙ (ap busy stage' ∙ sym (ap (λ n. busy (stage_at after.stages n)) q ∙ ap busy now))
             | inr n ↦ ap busy (sym (other_set o.run.stages Unissued i k Issued n))
           ]))
-          (at_line g e (size_of g) o.run o.handles (λ k. total (issues_at k) s.views) (λ k. total (owes_at k) s.views) (total has_issue_turn s.views) s.words s.homes o.words
+          (λ c j k l f q. elim (cases_eq k i) [
+            | inl r ↦ absurd (true≢false (sym (o.holders c j i l f (subst (λ n. o.loans.holder c j ≡ n + 1) r q)) ∙ ap stage_out stage'))
+            | inr n ↦ ap stage_out (other_set o.run.stages Unissued i k Issued n) ∙ o.holders c j k l f q
+          ])
+          (at_line g e o.run o.loans o.handles (λ k. total (issues_at k) s.views) (λ k. total (owes_at k) s.views) (total has_issue_turn s.views) s.words s.homes o.words
           (λ k. total (issues_at k) (set s.views id u')) (λ k. total (owes_at k) (set s.views id u')) (total has_issue_turn (set s.views id u'))
           i near Issued then (set s.words i 2) (set s.homes i (some (PendingEvent pending))) (words_set i 2 s.words) (slots_set i (some (PendingEvent pending)) s.homes)
           (λ j n. at_append o.handles h no_event j (λ r. n (r ∙ long))) (λ j n. sum_same (issues_at j) s.views id v u' me (others_issue u' refl j n)) (λ j. sum_same (owes_at j) s.views id v u' me refl)

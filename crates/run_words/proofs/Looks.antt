@@ -9,25 +9,27 @@ use lib.Seq.{set-get_or}
 use Rattle.atomic_table.specs.Table.{keeps, Allows}
 use Rattle.graph_terms.specs.declared.outcome.End.{End}
 use Rattle.graph_terms.specs.declared.outcome.End.TheVariants.{Done, Faulted, Cancelled, Waiting}
-use Rattle.graph_terms.specs.Graph.{GraphValue}
+use Rattle.graph_terms.specs.Graph.{GraphValue, column_space}
 use Rattle.graph_meaning.specs.Path.{HasPath}
 use Rattle.graph_meaning.specs.Evaluation.{eval_end, cells_of_lines}
 use Rattle.basics.specs.Sums.{total}
 use Rattle.event_table.specs.declared.handle.Handle.{Handle}
 use Rattle.shared_events.specs.declared.events.Events.{Events}
 use Rattle.basics.proofs.ListFacts.{contains_none, contains_one as Contains-one}
-use Rattle.run_state.specs.Run.{LineStage, Unissued, Issued, Out, Ending, Ended, Run, is_listed, stage_at, stage_issued, stage_out, issued, stage_started, stage_ended, kept_end}
+use Rattle.run_state.specs.Run.{LineStage, Unissued, Issued, Out, Ending, Ended, Home, Run, is_listed, place_at, list_at, stage_at, stage_issued, stage_out, issued, stage_started, stage_ended, kept_end}
 use Rattle.run_state.specs.Sound.{Sound, AccessesColumn}
-use Rattle.run_state.specs.Work.{HoldsAll, put_cells}
-use Rattle.run_state.proofs.Work.{work_does, work_cells}
-use Rattle.graph_meaning.specs.Effect.{Cells}
+use Rattle.run_state.specs.Work.{SeesAllWith, cells_now, put_cells}
+use Rattle.run_words.proofs.RunFacts.{sight_does, sight_cells, cell_of_point, column_space_is, had_not_home, read_leaves, changes_or_reads}
+use Rattle.graph_meaning.specs.Effect.{Cells, effect}
+use Rattle.index_spaces.specs.Space.{has_point}
+use Rattle.index_spaces.specs.Column.{cell_of}
 use Rattle.run_state.proofs.Public.{path_ended}
 use Rattle.run_words.specs.declared.content.Content.{Content}
 use Rattle.run_words.specs.declared.view.View.{View}
-use Rattle.run_words.specs.Claims.{Claim, Ground}
+use Rattle.run_words.specs.Claims.{Claim, Ground, TakenShare}
 use Rattle.run_words.specs.Views.{issues_at, working}
-use Rattle.run_words.specs.Rule.{Progress, end_code, LineShown, Fits, Shown, handle_at}
-use Rattle.run_words.specs.Plays.{Sat, Agrees, IsReady, end_of_code, issued_by, ended_by, looked_at, Told, looked, saw_at}
+use Rattle.run_words.specs.Rule.{Loans, column_with, Progress, end_code, LineShown, Fits, Shown, handle_at}
+use Rattle.run_words.specs.Plays.{Sat, Agrees, IsReady, HasAllColumns, end_of_code, issued_by, ended_by, looked_at, Told, looked, saw_at}
 use Rattle.run_words.proofs.Known.{still}
 use Rattle.run_words.proofs.Steps.{St, board, own_goes, working_started}
 
@@ -78,18 +80,37 @@ in_cond false x y c = (refl, Contains-one x y c)
 not_less : (a b : ℕ) → nat_lt a b ≡ false → b ≤ a
 not_less a b h = elim (cases_lt a b) [ inl l ↦ grind (arith, h, l) | inr n ↦ n ]
 
--- a line that has its columns is ready
-ready_of : (g : GraphValue) (run : Run) → Sound g run → (c : Claim) → Progress g run c → c.ends ≡ None → eval_end g c.line ≢ Cancelled → ((k : ℕ) → AccessesColumn g c.line k → (ks : List ℕ) × Contains c.columns (k, ks)) → IsReady g c.line c.columns
-ready_of g run sound c p going real all =
-    let holds : (cells : Cells) → Agrees g c.columns cells → HoldsAll g run c.line cells = λ cells ag. record {
+-- a line that has the columns that it may change, and shares of those that it only reads, is ready
+ready_of : (g : GraphValue) (run : Run) (loans : Loans) → Sound g run → (c : Claim) → Progress g run loans c → c.ends ≡ None → c.puts ≡ [] → eval_end g c.line ≢ Cancelled → HasAllColumns g c.line c.columns c.shares → IsReady g c.line c.columns c.shares
+ready_of g run loans sound c p going unput real all =
+    let now : (cells : Cells) → Agrees g c.columns c.shares cells → (k : ℕ) → (ks : List ℕ) → Contains c.columns (k, ks) → (q : ℕ) → has_point (column_space g k) q ≡ true → cells k q ≡ cells_now g run k q =
+    λ cells ag k ks m q h. ag.has k ks m q h ∙ ap (λ (l : List ℕ). cells_of_lines g (is_listed l) k q) (sym (p.has k ks m).1) in
+    let shown : (cells : Cells) → Agrees g c.columns c.shares cells → (s : TakenShare) → Contains c.shares s → AccessesColumn g c.line s.column → place_at run.places s.column ≡ Home s.cells → (q : ℕ) → has_point (column_space g s.column) q ≡ true → cells s.column q ≡ cells_now g run s.column q =
+    λ cells ag s m a at q h. ag.sees s m (λ ks c_in. had_not_home (place_at run.places s.column) c.line s.cells (p.has s.column ks c_in).0 at) q h ∙ (ap (λ (xs : List ℕ). cell_of (column_with g s.column xs) q) (sound.on_columns.cells s.column s.cells at)
+    ∙ cell_of_point (column_space g s.column) (column_space_is sound.graph c.line s.column a) (cells_of_lines g (is_listed (list_at run.back s.column)) s.column) q h) in
+    let sees : (cells : Cells) → Agrees g c.columns c.shares cells → SeesAllWith (effect g) g run c.line cells = λ cells ag. record {
       is_out = ap stage_out (p.stage ∙ ap working going);
       not_cancelled = real;
-      has = λ k a. let m = all k a in (p.has k m.0 m.1).0;
-      holds = λ k a q h. let m = all k a in ag k m.0 m.1 q h ∙ ap (λ (l : List ℕ). cells_of_lines g (is_listed l) k q) (sym (p.has k m.0 m.1).1);
+      not_back = λ k. p.puts k ∙ ap (λ (l : List ℕ). is_listed l k) unput;
+      sees = λ k a q h. elim (changes_or_reads g sound.graph c.line k a) [
+        | inl changes ↦ (let m = all.has k changes in now cells ag k m.0 m.1 q h)
+        | inr only ↦ (
+            let m = all.sees k only in
+            let here = p.shares.each m.0 m.1 in
+            elim here.shows [
+              | inl at ↦ subst (λ d. has_point (column_space g d) q ≡ true → cells d q ≡ cells_now g run d q) m.2 (shown cells ag m.0 m.1 (subst (AccessesColumn g c.line) (sym m.2) a) at.0 q) h
+              | inr had ↦ (let n = p.only k (ap (place_at run.places) (sym m.2) ∙ had) in now cells ag k n.0 n.1 q h)
+            ])
+      ];
     } in
     record {
-      performs = λ cells ag. work_does sound c.line cells (holds cells ag);
-      leaves = λ cells ag k ks m. let h = p.has k ks m in work_cells sound c.line cells (holds cells ag) k (sound.on_columns.had_accessed k c.line h.0) ∙ ap (λ (l : List ℕ). put_cells g c.line l k) h.1;
+      graph = sound.graph;
+      performs = λ cells ag. sight_does sound c.line cells (sees cells ag);
+      keeps = λ cells ag s m alone only. elim (p.shares.each s m).shows [
+        | inl at ↦ sight_cells sound c.line cells (sees cells ag) s.column only.accessed ∙ (read_leaves sound c.line s.column (ap stage_out (p.stage ∙ ap working going)) only ∙ sym (sound.on_columns.cells s.column s.cells at.0))
+        | inr had ↦ (let n = p.only s.column had in absurd (alone n.0 n.1))
+      ];
+      leaves = λ cells ag k ks m. let h = p.has k ks m in sight_cells sound c.line cells (sees cells ag) k (sound.on_columns.had_accessed k c.line h.0) ∙ ap (λ (l : List ℕ). put_cells g c.line l k) h.1;
     }
 
 -- a seat looks at the word of a line
@@ -97,7 +118,7 @@ module _ (g : GraphValue) (e : Events) (s : St) (o : Shown g e s) (id i : ℕ) (
   abbrev r : ℕ
   r = get_or s.words i 0
 
-  looked_fits : Fits g e o.run o.handles (looked_at v i r)
+  looked_fits : Fits g e o.run o.loans o.handles (looked_at v i r)
   looked_fits =
       let f = o.each_view id v me in
       let t = read_line g e s o i near in
@@ -124,8 +145,10 @@ module _ (g : GraphValue) (e : Events) (s : St) (o : Shown g e s) (id i : ℕ) (
       record {
         few = t.few;
         known = λ x c h. subst (λ (y : Ground). eval_end y.graph i ≡ end_of_code (r - 8)) (sym (f.keys x c)) (o.sound.on_lines.ends i (end_of_code (r - 8)) (ap kept_end (t.ended h)));
-        ready = λ x c k q going real all. subst (λ (y : Ground). IsReady y.graph c.line c.columns) (sym (f.keys x k))
-            (let x_is = f.keys x k in ready_of g o.run o.sound c (f.claim c q) going (subst (λ (y : Ground). eval_end y.graph c.line ≢ Cancelled) x_is real) (subst (λ (y : Ground). (j : ℕ) → AccessesColumn y.graph c.line j → (ks : List ℕ) × Contains {X = ℕ × List ℕ} c.columns (j, ks)) x_is all));
+        ready = λ x c k q going unput real all.
+            let x_is = f.keys x k in
+            subst (λ (y : Ground). IsReady y.graph c.line c.columns c.shares) (sym x_is)
+            (ready_of g o.run o.loans o.sound c (f.claim c q) going unput (subst (λ (y : Ground). eval_end y.graph c.line ≢ Cancelled) x_is real) (subst (λ (y : Ground). HasAllColumns y.graph c.line c.columns c.shares) x_is all));
         before = λ x c k q p. t.whole (path_ended o.sound.on_lines i c.line (subst (λ (y : Ground). HasPath y.graph i c.line) (f.keys x k) p) (ap stage_started (f.claim c q).stage ∙ working_started c.ends));
       }
 

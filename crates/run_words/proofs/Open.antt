@@ -1,5 +1,5 @@
 -- A run that begins meets the rule.
-use Rattle.std.proofs.Common.{◌≡◌, ℕ, zero, suc, ◌+◌, List, [], ◌∷◌, length, map, get_or, inl, refl, sym, ◌∙◌, ap, subst, arith, ⊎_elim}
+use Rattle.std.proofs.Common.{◌≡◌, ℕ, zero, suc, ◌+◌, ◌<◌, List, [], ◌∷◌, length, map, get_or, inl, refl, sym, ◌∙◌, ap, subst, arith, ⊎_elim}
 use Rattle.std.specs.Prelude.{Contains, Option, Some, None, slice_get}
 use Rattle.std.proofs.lemmas.Bool.{true≢false}
 use Rattle.std.proofs.lemmas.Option.{none-some, same_Some}
@@ -14,15 +14,18 @@ use Rattle.graph_meaning.specs.Rules.{Accepted}
 use Rattle.graph_terms.specs.Fits.{IsGraph}
 use Rattle.shared_events.specs.declared.events.Events.{Events}
 use Rattle.basics.proofs.ListFacts.{contains_none, same_at, contains_one as Contains-one}
-use Rattle.run_state.specs.Run.{LineStage, Unissued, Home, stage_at, stage_issued, stage_ended}
+use Rattle.run_state.specs.Run.{LineStage, Unissued, Home, stage_at, place_at, stage_issued, stage_ended}
 use Rattle.run_state.specs.Start.{start, zeros, first_value}
-use Rattle.run_state.proofs.Start.{start_is_sound}
+use Rattle.run_words.proofs.RunFacts.{start_is_sound}
 use Rattle.run_words.specs.declared.content.Content.{Content}
-use Rattle.run_words.specs.declared.content.Content.TheVariants.{Nothing, Cells, Issuer}
+use Rattle.run_words.specs.declared.content.Content.TheVariants.{Nothing, Share, Issuer}
 use Rattle.run_words.specs.declared.view.View.{View}
-use Rattle.run_words.specs.Layout.{size_of, turn_word, column_slot, issue_turn_slot}
+use Rattle.run_words.specs.Layout.{size_of, turn_word, column_slot, share_slot, issue_turn_slot}
 use Rattle.run_words.specs.Views.{time_code, busy}
-use Rattle.run_words.specs.Rule.{ground_of, LineShown, handle_at, ColumnShown, column_with, lock_code, Fits, Shown, opener}
+use Rattle.run_words.specs.Rule.{Loans, ground_of, LineShown, handle_at, home_content, share_value, ColumnShown, column_with, lock_code, Fits, Shown, opener}
+use Rattle.run_words.proofs.LendingFacts.{place_some, place_none}
+use Rattle.share_words.specs.Shares.{share_count}
+use Rattle.share_words.proofs.Public.{shares_in_planes}
 use Rattle.run_words.proofs.LockCodes.{code_none}
 use Rattle.run_words.specs.Opening.{AreFirstWords, AreFirstSlots}
 
@@ -43,8 +46,11 @@ opens g e ws xs graph accepted w x =
     let v : View = opener g e in
     let z = size_of g in
     let stage : (i : ℕ) → stage_at (start g).stages i ≡ Unissued = same_at Unissued (length g.lines) in
+    let loans : Loans = record { lending = x.lending; holder = λ c j. 0 } in
+    let home : (c : ℕ) → c < z.cols → place_at (start g).places c ≡ Home (zeros g c) =
+    λ c l. get_or-map-range_with_len (λ c. Home (zeros g c)) 0 (length (columns g)) c c (Home []) l (let q : 0 + c ≡ c = omega arith in q) in
     let one : (j : ℕ) (u : View) → get_elem? (v ∷ []) j ≡ some u → v ≡ u = λ j u q. ⊎_elim (λ (y : get_elem? {A = View} [] j ≡ some u). absurd (some-ne-none u (sym y))) (λ y. y) (at_snoc [] v u j q) in
-    let fits : Fits g e (start g) [] v = record {
+    let fits : Fits g e (start g) loans [] v = record {
       keys = λ y c. sym (Contains-one (ground_of g e) y c);
       issued = λ j h. absurd (contains_none j h);
       ended = λ j y h. absurd (contains_none {X = ℕ × End} (j, y) h);
@@ -59,6 +65,7 @@ opens g e ws xs graph accepted w x =
     } in
     record {
       run = start g;
+      loans = loans;
       handles = [];
       sound = start_is_sound g graph accepted;
       are_handles = record {
@@ -76,11 +83,17 @@ opens g e ws xs graph accepted w x =
         times = λ i l. ap (λ n. n + 0) (w.times i l) ∙ ap time_code (sym (same_at {X = Option ℕ} None (length g.lines) i));
         values = λ p l. w.values p l ∙ sym (get_or-map-range_with_len (first_value g) 0 (length g.lines) p p 0 l (let q : 0 + p ≡ p = omega arith in q));
         columns = λ c l. record {
-          home = some (Cells (column_with g c (zeros g c)));
-          at = at_slot xs (column_slot z c) (Cells (column_with g c (zeros g c))) (x.columns c l);
-          shown = subst (λ p. ColumnShown g c p (get_or ws (turn_word z c) 0) (some (Cells (column_with g c (zeros g c)))))
-              (sym (get_or-map-range_with_len (λ c. Home (zeros g c)) 0 (length (columns g)) c c (Home []) l (let q : 0 + c ≡ c = omega arith in q))) (w.columns c l, refl);
+          home = some (home_content g c (x.lending c) (zeros g c));
+          at = at_slot xs (column_slot z c) (home_content g c (x.lending c) (zeros g c)) (x.columns c l);
+          shown = subst (λ p. ColumnShown g c (x.lending c) p (get_or ws (turn_word z c) 0) (some (home_content g c (x.lending c) (zeros g c)))) (sym (home c l)) (w.columns c l, refl);
         };
+        share_words = w.shares;
+        shares = λ c j l m. (let within : j < z.planes = omega (arith, m, shares_in_planes g c l) in record {
+          home = some (Share (share_value g c j (x.lending c) (zeros g c)));
+          at = at_slot xs (share_slot z c j) (Share (share_value g c j (x.lending c) (zeros g c))) (x.places c j l within ∙ ap (λ (y : Content). Some y) (place_some (share_count g c) (x.lending c) (column_with g c (zeros g c)) j m));
+          shown = (zeros g c, home c l, refl);
+        });
+        spare = λ c j l high within. at_slot xs (share_slot z c j) Nothing (x.places c j l within ∙ ap (λ (y : Content). Some y) (place_none (share_count g c) (x.lending c) (column_with g c (zeros g c)) j high));
         locks = λ l h. w.locks l h ∙ (sym (code_none g) ∙ ap (lock_code g) (sym (same_at {X = List ℕ} [] (length (locks g)) l)));
         clock = w.clock;
         issue_turn = record {
@@ -89,8 +102,9 @@ opens g e ws xs graph accepted w x =
           shown = (w.issue_turn, record { issue_state = x.issue_state; here = refl; is_issue_state = x.is_issue_state });
         };
       };
-      each_view = λ j u q. subst (Fits g e (start g) []) (one j u q) fits;
+      each_view = λ j u q. subst (Fits g e (start g) loans []) (one j u q) fits;
       works = λ i. ap busy (sym (stage i));
+      holders = λ c j i near low h. absurd (omega (arith, h));
       numbers = record {
         counted = λ f. omega arith;
         once = λ n. let t = Rattle.basics.proofs.Sums.below-once n 1 in omega (arith, t);

@@ -24,17 +24,16 @@ use Rattle.shared_events.specs.declared.view.View as their
 use Rattle.event_table.specs.EventMap.{EventMap, SlotLife, unused, without_waiters, all_free, answer, answer_of, life_at, IsFree, no_event}
 use Rattle.run_state.specs.Run.{LineStage, Unissued, Issued, Out, Ending, Ended, Run, stage_at, end_so_far, stage_issued, stage_out, stage_started, stage_over, stage_ended, kept_end, issued, out, ended}
 use Rattle.run_state.proofs.Public.{stage_there}
-use Rattle.run_state.proofs.QuietTrace.{clock_small}
-use Rattle.run_state.proofs.Told.{kept_is_ended}
+use Rattle.run_words.proofs.RunFacts.{clock_small, kept_is_ended}
 use Rattle.run_parts.specs.LineEvents.{AreEvents, answer_for, last_gen_for}
 use Rattle.run_parts.specs.Shown.{stage_of, LinesShow, HomesShow, PhasesShow, IsShown}
 use Rattle.run_parts.specs.declared.states.LineState.{LineState}
 use Rattle.run_words.proofs.CreatedCounts.{created_count}
 use Rattle.run_words.proofs.PendingCounts.{pend, pending_count}
 use Rattle.run_words.specs.declared.content.Content.{Content}
-use Rattle.run_words.specs.declared.content.Content.TheVariants.{Cells}
 use Rattle.run_words.specs.declared.view.View.{View}
-use Rattle.run_words.specs.Layout.{size_of, status_word, time_word, value_word, line_slot, column_slot}
+use Rattle.run_words.specs.Layout.{size_of, status_word, time_word, value_word, line_slot}
+use Rattle.run_words.specs.Lending.{LiesIn}
 use Rattle.run_words.specs.Rule.{fate_for, handle_at, column_with}
 use Rattle.run_words.specs.Views.{time_code}
 use Rattle.run_words.specs.Closing.{LineLeft, IsLeft}
@@ -150,7 +149,7 @@ module _ (g : GraphValue) (e : Events) (v : View) (run : Run) (handles : List Ha
     none = λ p near other. read p near ∙ ap Some (phase_none (verb_at g p) (slice_index words (value_word (size_of g) p)) other);
   }
 
-  pub homes_show : (homes : List (Option ColumnValue)) → length homes ≡ length (columns g) → ((c : ℕ) (x : ColumnValue) → c < length (columns g) → get_elem? slots (column_slot (size_of g) c) ≡ some (Cells x) → slice_get homes c ≡ Some (Some x)) → HomesShow g run homes
+  pub homes_show : (homes : List (Option ColumnValue)) → length homes ≡ length (columns g) → ((c : ℕ) (x : ColumnValue) → c < length (columns g) → LiesIn g slots c x → slice_get homes c ≡ Some (Some x)) → HomesShow g run homes
   homes_show homes each home = record {
     each_home = each;
     at_home = λ c near. (let x = l.columns c near in (column_with g c x.0, home c (column_with g c x.0) near x.2, refl, x.1));
@@ -195,7 +194,7 @@ module _ (g : GraphValue) (e : Events) (v : View) (run : Run) (handles : List Ha
           (phases : List (Option ℕ)) (each_phase : length phases ≡ length g.lines)
           (value : (i : ℕ) → i < length g.lines → slice_get phases i ≡ Some (value_for (verb_at g i) (slice_index words (value_word (size_of g) i))))
           (homes : List (Option ColumnValue)) (each_home : length homes ≡ length (columns g))
-          (home : (c : ℕ) (x : ColumnValue) → c < length (columns g) → get_elem? slots (column_slot (size_of g) c) ≡ some (Cells x) → slice_get homes c ≡ Some (Some x))
+          (home : (c : ℕ) (x : ColumnValue) → c < length (columns g) → LiesIn g slots c x → slice_get homes c ≡ Some (Some x))
           (all : (k : ℕ) → k < m.waiters → IsFree m k)
         where
           pub shows : IsShown g run handles states m homes phases

@@ -16,9 +16,8 @@ use Rattle.basics.proofs.Sums.{total-set, total-append}
 use Rattle.basics.proofs.ListFacts.{contains_none}
 use Rattle.run_state.specs.Run.{Run}
 use Rattle.run_words.specs.declared.view.View.{View}
-use Rattle.run_words.specs.Layout.{size_of}
 use Rattle.run_words.specs.Views.{claim_at, runs_at, number_at, issues_at, late_at, owes_at, turn_of, has_issue_turn}
-use Rattle.run_words.specs.Rule.{Fits, AreNumbered, HasHandles, IsKnown, Shown}
+use Rattle.run_words.specs.Rule.{Loans, Fits, AreNumbered, HasHandles, IsKnown, Shown}
 use Rattle.run_words.specs.Plays.{no_view, parent_of, child_of, joined}
 use Rattle.run_words.specs.Premises.{HasNoRights}
 use Rattle.run_words.proofs.Frames.{at_views}
@@ -28,22 +27,24 @@ use Rattle.run_words.proofs.Numbers.{split_numbers, join_numbers}
 
 -- other views of the same weights, each of which fits
 pub same_board : (g : GraphValue) (e : Events) (s : St) (o : Shown g e s) (vs : List View) → ((k : ℕ) → total (issues_at k) vs ≡ total (issues_at k) s.views) → ((k : ℕ) → total (owes_at k) vs ≡ total (owes_at k) s.views) → total has_issue_turn vs ≡ total has_issue_turn s.views
-    → ((k : ℕ) → total (runs_at k) vs ≡ total (runs_at k) s.views) → ((j : ℕ) (u : View) → get_elem? vs j ≡ some u → Fits g e o.run o.handles u) → AreNumbered vs → IsKnown o.run o.handles vs → Shown g e (board s.words s.homes vs)
+    → ((k : ℕ) → total (runs_at k) vs ≡ total (runs_at k) s.views) → ((j : ℕ) (u : View) → get_elem? vs j ≡ some u → Fits g e o.run o.loans o.handles u) → AreNumbered vs → IsKnown o.run o.handles vs → Shown g e (board s.words s.homes vs)
 same_board g e s o vs ei eo ed er fits numbers known = record {
   run = o.run;
+  loans = o.loans;
   handles = o.handles;
   sound = o.sound;
   are_handles = o.are_handles;
-  words = at_views g e (size_of g) o.run o.handles (λ k. total (issues_at k) s.views) (λ k. total (owes_at k) s.views) (total has_issue_turn s.views) s.words s.homes o.words
+  words = at_views g e o.run o.loans o.handles (λ k. total (issues_at k) s.views) (λ k. total (owes_at k) s.views) (total has_issue_turn s.views) s.words s.homes o.words
       (λ k. total (issues_at k) vs) (λ k. total (owes_at k) vs) (total has_issue_turn vs) ei eo ed;
   each_view = fits;
   works = λ k. er k ∙ o.works k;
+  holders = o.holders;
   numbers = numbers;
   known = known;
 }
 
 -- a view that knows what another does, and has no rights
-pub no_rights : {g : GraphValue} {e : Events} {run : Run} {handles : List Handle} (v w : View) → Fits g e run handles v → w.keys ≡ v.keys → w.issued ≡ v.issued → w.ended ≡ v.ended → w.named ≡ v.named → w.times ≡ [] → w.claim ≡ None → w.issuing ≡ None → w.issue_turn ≡ None → Fits g e run handles w
+pub no_rights : {g : GraphValue} {e : Events} {run : Run} {loans : Loans} {handles : List Handle} (v w : View) → Fits g e run loans handles v → w.keys ≡ v.keys → w.issued ≡ v.issued → w.ended ≡ v.ended → w.named ≡ v.named → w.times ≡ [] → w.claim ≡ None → w.issuing ≡ None → w.issue_turn ≡ None → Fits g e run loans handles w
 no_rights v w f ek ei ee en et c i d = record {
   keys = λ x h. f.keys x (subst (λ l. Contains l x) ek h);
   issued = λ j h. f.issued j (subst (λ l. Contains l j) ei h);
@@ -58,8 +59,8 @@ no_rights v w f ek ei ee en et c i d = record {
   idle = λ _. (c, i, d);
 }
 
-pub none_fits : (g : GraphValue) (e : Events) (run : Run) (handles : List Handle) → Fits g e run handles no_view
-none_fits g e run handles = record {
+pub none_fits : (g : GraphValue) (e : Events) (run : Run) (loans : Loans) (handles : List Handle) → Fits g e run loans handles no_view
+none_fits g e run loans handles = record {
   keys = λ x h. absurd (contains_none x h);
   issued = λ j h. absurd (contains_none j h);
   ended = λ j x h. absurd (contains_none {X = ℕ × End} (j, x) h);
@@ -73,7 +74,7 @@ none_fits g e run handles = record {
   idle = λ _. (refl, refl, refl);
 }
 
-parent_fits : {g : GraphValue} {e : Events} {run : Run} {handles : List Handle} (v : View) → Fits g e run handles v → Fits g e run handles (parent_of v)
+parent_fits : {g : GraphValue} {e : Events} {run : Run} {loans : Loans} {handles : List Handle} (v : View) → Fits g e run loans handles v → Fits g e run loans handles (parent_of v)
 parent_fits v f = record { keys = f.keys; issued = f.issued; ended = f.ended; times = f.times; named = f.named; claim = f.claim; event = f.event; issuing = f.issuing; issuer = f.issuer; issue_turn = f.issue_turn; idle = f.idle }
 
 -- a seat that is split off weighs nothing
@@ -84,13 +85,13 @@ pub splits : (g : GraphValue) (e : Events) (id : ℕ) (v : View) (p : ℕ) (ps :
 splits g e id v p ps own s o me = same_board g e s o (set s.views id (parent_of v) ++ child_of v ∷ [])
     (λ k. split_sum (issues_at k) s.views id v me refl refl) (λ k. split_sum (owes_at k) s.views id v me refl refl) (split_sum has_issue_turn s.views id v me refl refl) (λ k. split_sum (runs_at k) s.views id v me refl refl)
     (λ j u at. ⊎_elim
-    (λ l. elim (at_set s.views id j (parent_of v) u l) [ inl (here, is) ↦ subst (Fits g e o.run o.handles) is (parent_fits v (o.each_view id v me)) | inr (other, before) ↦ o.each_view j u before ])
-    (λ (q : child_of v ≡ u). subst (Fits g e o.run o.handles) q (no_rights v (child_of v) (o.each_view id v me) refl refl refl refl refl refl refl refl))
+    (λ l. elim (at_set s.views id j (parent_of v) u l) [ inl (here, is) ↦ subst (Fits g e o.run o.loans o.handles) is (parent_fits v (o.each_view id v me)) | inr (other, before) ↦ o.each_view j u before ])
+    (λ (q : child_of v ≡ u). subst (Fits g e o.run o.loans o.handles) q (no_rights v (child_of v) (o.each_view id v me) refl refl refl refl refl refl refl refl))
     (at_snoc (set s.views id (parent_of v)) (child_of v) u j at))
     (split_numbers s.views o.numbers id v me p ps own)
     (longer_known (set s.views id (parent_of v)) (child_of v ∷ []) (known_on s.views id v (parent_of v) me refl (still o.run o.handles v (parent_of v) (record { issued = λ j c. c; ended = λ j x c. c; times = λ j t c. c }) (λ h. h)) o.known))
 
-joined_fits : {g : GraphValue} {e : Events} {run : Run} {handles : List Handle} (v w : View) (p : ℕ) (ps : List ℕ) → v.mine ≡ p ∷ ps → Fits g e run handles v → Fits g e run handles w → Fits g e run handles (joined v w)
+joined_fits : {g : GraphValue} {e : Events} {run : Run} {loans : Loans} {handles : List Handle} (v w : View) (p : ℕ) (ps : List ℕ) → v.mine ≡ p ∷ ps → Fits g e run loans handles v → Fits g e run loans handles w → Fits g e run loans handles (joined v w)
 joined_fits v w p ps own f h = record {
   keys = f.keys;
   issued = λ j c. ⊎_elim (f.issued j) (h.issued j) (Contains-append_cases v.issued w.issued j c);
@@ -131,9 +132,9 @@ joins g e id other v w p ps own free s o me apart them =
     (join_sum has_issue_turn s.views id other v w me apart them refl (ap turn_of free.issue_turn) refl)
     (λ k. join_sum (runs_at k) s.views id other v w me apart them refl (ap (claim_at k) free.claim) refl)
     (λ j u at. elim (at_set (set s.views id (joined v w)) other j no_view u at) [
-      | inl (here, is) ↦ subst (Fits g e o.run o.handles) is (none_fits g e o.run o.handles)
+      | inl (here, is) ↦ subst (Fits g e o.run o.loans o.handles) is (none_fits g e o.run o.loans o.handles)
       | inr (away, before) ↦ elim (at_set s.views id j (joined v w) u before) [
-        | inl (here, is) ↦ subst (Fits g e o.run o.handles) is (joined_fits v w p ps own (o.each_view id v me) (o.each_view other w there))
+        | inl (here, is) ↦ subst (Fits g e o.run o.loans o.handles) is (joined_fits v w p ps own (o.each_view id v me) (o.each_view other w there))
         | inr (far, first) ↦ o.each_view j u first
       ]
     ])

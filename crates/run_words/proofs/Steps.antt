@@ -1,5 +1,5 @@
 -- A step of one seat keeps the rule, where it keeps what the others have.
-use Rattle.std.proofs.Common.{◌≡◌, ℕ, ◌<◌, ◌≤◌, ◌+◌, true, inl, inr, List, ◌∷◌, length, set, refl, sym, ◌∙◌, ap, subst, arith, cond, eq-eqb, ne_eqb}
+use Rattle.std.proofs.Common.{◌≡◌, ℕ, ◌<◌, ◌≤◌, ◌+◌, true, ◌⊎◌, inl, inr, ⊎_elim, List, [], ◌∷◌, length, set, refl, sym, ◌∙◌, ap, subst, arith, cond, eq-eqb, ne_eqb}
 use Rattle.std.specs.Prelude.{Contains, Option, Some, None, ◌↔◌}
 use Rattle.std.proofs.lemmas.Bool.{true≢false, cases_eq}
 use Rattle.std.proofs.lemmas.Option.{none-some, same_Some}
@@ -8,21 +8,23 @@ use lib.ListN.{get_elem?}
 use Rattle.atomic_table.specs.Table.{State}
 use Rattle.atomic_table.proofs.Lists.{at_set}
 use Rattle.graph_terms.specs.declared.outcome.End.{End}
-use Rattle.graph_terms.specs.Graph.{GraphValue}
+use Rattle.graph_terms.specs.Graph.{GraphValue, columns}
 use Rattle.basics.specs.Sums.{total, only}
 use Rattle.shared_events.specs.Seats.{Begins}
 use Rattle.event_table.specs.declared.handle.Handle.{Handle}
 use Rattle.shared_events.specs.declared.events.Events.{Events}
 use Rattle.basics.proofs.Sums.{total-set, term_le, terms_le}
-use Rattle.run_state.specs.Run.{LineStage, Unissued, Issued, Out, Ending, Ended, Run, stage_at, stage_issued, stage_ended, stage_started, issued, ended}
+use Rattle.run_state.specs.Run.{LineStage, Unissued, Issued, Out, Ending, Ended, Run, stage_at, stage_issued, stage_out, stage_ended, stage_started, issued, out, ended}
 use Rattle.run_state.specs.Sound.{Sound}
 use Rattle.run_words.specs.declared.content.Content.{Content}
 use Rattle.run_words.specs.declared.view.View.{View}
 use Rattle.run_words.specs.Claims.{Claim}
 use Rattle.run_words.specs.Layout.{size_of}
 use Rattle.run_words.specs.Views.{claim_at, runs_at, number_at, issues_at, late_at, owes_at, turn_of, has_issue_turn, busy, working}
-use Rattle.run_words.specs.Rule.{AreHandles, WordsShow, Progress, HasEndedAt, Fits, HasHandles, AreNumbered, Shown, child, handle_at}
-use Rattle.run_words.proofs.Aside.{Aside, progress_on, working_not_ended}
+use Rattle.run_words.specs.Rule.{Loans, AreHandles, WordsShow, Progress, HasEndedAt, Fits, HasHandles, AreNumbered, Shown, child, handle_at}
+use Rattle.run_words.proofs.Aside.{Aside, Lends, lends_same, progress_on, working_not_ended}
+use Rattle.basics.proofs.ListFacts.{contains_none}
+use Rattle.share_words.specs.Shares.{share_count}
 use Rattle.run_words.proofs.Frames.{at_views}
 use Rattle.run_words.proofs.Known.{Learns, known_on}
 
@@ -110,12 +112,12 @@ pub record Goes (run after : Run) (handles then : List Handle) : Type 0 where
   pub begins : (hs : List Handle) → Begins hs handles → Begins hs then
 
 -- and what it leaves of the rights of one seat
-pub record Spares (g : GraphValue) (run after : Run) (then : List Handle) (u : View) : Type 0 where
-  pub claim : (c : Claim) → u.claim ≡ Some c → Progress g run c → Progress g after c
+pub record Spares (g : GraphValue) (run after : Run) (loans lent : Loans) (then : List Handle) (u : View) : Type 0 where
+  pub claim : (c : Claim) → u.claim ≡ Some c → Progress g run loans c → Progress g after lent c
   pub issuing : (k : ℕ) → u.issuing ≡ Some k → stage_at after.stages k ≡ Unissued
   pub issue_turn : (hs : List Handle) → u.issue_turn ≡ Some hs → hs ≡ then
 
-pub fits_on : {g : GraphValue} {e : Events} {run after : Run} {handles then : List Handle} (u : View) → Goes run after handles then → Spares g run after then u → Fits g e run handles u → Fits g e after then u
+pub fits_on : {g : GraphValue} {e : Events} {run after : Run} {loans lent : Loans} {handles then : List Handle} (u : View) → Goes run after handles then → Spares g run after loans lent then u → Fits g e run loans handles u → Fits g e after lent then u
 fits_on u go s f = record {
   keys = f.keys;
   issued = λ j c. go.issued j (f.issued j c);
@@ -150,54 +152,57 @@ module _ (g : GraphValue) (e : Events) (s : St) (o : Shown g e s) (id : ℕ) (v 
       absurd (omega (arith, one, b, idle, sum))
 
   -- the rule after a step
-  pub steps : (after : Run) (then : List Handle) (ws : List ℕ) (hs : List (mathlib.Core.Option.Option Content)) → Goes o.run after o.handles then
-      → ((j : ℕ) (u : View) → (j ≡ id → ⊥) → get_elem? s.views j ≡ some u → Spares g o.run after then u)
+  pub steps : (after : Run) (lent : Loans) (then : List Handle) (ws : List ℕ) (hs : List (mathlib.Core.Option.Option Content)) → Goes o.run after o.handles then
+      → ((j : ℕ) (u : View) → (j ≡ id → ⊥) → get_elem? s.views j ≡ some u → Spares g o.run after o.loans lent then u)
       → w.mine ≡ v.mine → w.births ≡ v.births → w.splits ≡ v.splits
-      → Sound g after → AreHandles after.stages then → Fits g e after then w
+      → Sound g after → AreHandles after.stages then → Fits g e after lent then w
       → ((k : ℕ) → total (runs_at k) (set s.views id w) ≡ busy (stage_at after.stages k))
-      → WordsShow g e (size_of g) after then (λ k. total (issues_at k) (set s.views id w)) (λ k. total (owes_at k) (set s.views id w)) (total has_issue_turn (set s.views id w)) ws hs
+      → ((c j k : ℕ) → c < length (columns g) → j < share_count g c → lent.holder c j ≡ k + 1 → out after.stages k ≡ true)
+      → WordsShow g e (size_of g) after lent then (λ k. total (issues_at k) (set s.views id w)) (λ k. total (owes_at k) (set s.views id w)) (total has_issue_turn (set s.views id w)) ws hs
       → Learns o.run after o.handles then v w
       → Shown g e (board ws hs (set s.views id w))
-  steps after then ws hs go spares em eb es sound named fits works words learns = record {
+  steps after lent then ws hs go spares em eb es sound named fits works holders words learns = record {
     run = after;
+    loans = lent;
     handles = then;
     sound = sound;
     are_handles = named;
     words = words;
     each_view = λ j u at. elim (at_set s.views id j w u at) [
-      | inl (here, is) ↦ subst (Fits g e after then) is fits
+      | inl (here, is) ↦ subst (Fits g e after lent then) is fits
       | inr (other, before) ↦ fits_on u go (spares j u other before) (o.each_view j u before)
     ];
     works = works;
+    holders = holders;
     numbers = numbers_on s.views id v w me em eb es o.numbers;
     known = known_on s.views id v w me em learns o.known;
   }
 
   -- THE RUN STAYS, and the seat's rights do
   same_words : ((k : ℕ) → issues_at k w ≡ issues_at k v) → ((k : ℕ) → owes_at k w ≡ owes_at k v) → has_issue_turn w ≡ has_issue_turn v
-      → WordsShow g e (size_of g) o.run o.handles (λ k. total (issues_at k) (set s.views id w)) (λ k. total (owes_at k) (set s.views id w)) (total has_issue_turn (set s.views id w)) s.words s.homes
-  same_words ei eo ed = at_views g e (size_of g) o.run o.handles (λ k. total (issues_at k) s.views) (λ k. total (owes_at k) s.views) (total has_issue_turn s.views) s.words s.homes o.words
+      → WordsShow g e (size_of g) o.run o.loans o.handles (λ k. total (issues_at k) (set s.views id w)) (λ k. total (owes_at k) (set s.views id w)) (total has_issue_turn (set s.views id w)) s.words s.homes
+  same_words ei eo ed = at_views g e o.run o.loans o.handles (λ k. total (issues_at k) s.views) (λ k. total (owes_at k) s.views) (total has_issue_turn s.views) s.words s.homes o.words
       (λ k. total (issues_at k) (set s.views id w)) (λ k. total (owes_at k) (set s.views id w)) (total has_issue_turn (set s.views id w))
       (λ k. sum_same (issues_at k) s.views id v w me (ei k)) (λ k. sum_same (owes_at k) s.views id v w me (eo k)) (sum_same has_issue_turn s.views id v w me ed)
 
-  pub run_stays : w.mine ≡ v.mine → w.births ≡ v.births → w.splits ≡ v.splits → ((k : ℕ) → runs_at k w ≡ runs_at k v) → Fits g e o.run o.handles w → Learns o.run o.run o.handles o.handles v w → (ws : List ℕ) (hs : List (mathlib.Core.Option.Option Content))
-      → WordsShow g e (size_of g) o.run o.handles (λ k. total (issues_at k) (set s.views id w)) (λ k. total (owes_at k) (set s.views id w)) (total has_issue_turn (set s.views id w)) ws hs
+  pub run_stays : w.mine ≡ v.mine → w.births ≡ v.births → w.splits ≡ v.splits → ((k : ℕ) → runs_at k w ≡ runs_at k v) → Fits g e o.run o.loans o.handles w → Learns o.run o.run o.handles o.handles v w → (ws : List ℕ) (hs : List (mathlib.Core.Option.Option Content))
+      → WordsShow g e (size_of g) o.run o.loans o.handles (λ k. total (issues_at k) (set s.views id w)) (λ k. total (owes_at k) (set s.views id w)) (total has_issue_turn (set s.views id w)) ws hs
       → Shown g e (board ws hs (set s.views id w))
-  run_stays em eb es er fits learns ws hs words = steps o.run o.handles ws hs (record { names = λ j h. refl; issued = λ j h. h; ended = λ j x h. h; times = λ j t h. h; begins = λ l h. h })
+  run_stays em eb es er fits learns ws hs words = steps o.run o.loans o.handles ws hs (record { names = λ j h. refl; issued = λ j h. h; ended = λ j x h. h; times = λ j t h. h; begins = λ l h. h })
       (λ j u other at. let f = o.each_view j u at in record { claim = λ c q p. p; issuing = λ k q. (f.issuing k q).0; issue_turn = f.issue_turn })
-      em eb es o.sound o.are_handles fits (λ k. sum_same (runs_at k) s.views id v w me (er k) ∙ o.works k) words learns
+      em eb es o.sound o.are_handles fits (λ k. sum_same (runs_at k) s.views id v w me (er k) ∙ o.works k) o.holders words learns
 
-  pub own_goes : w.mine ≡ v.mine → w.births ≡ v.births → w.splits ≡ v.splits → w.claim ≡ v.claim → w.issuing ≡ v.issuing → w.issue_turn ≡ v.issue_turn → Fits g e o.run o.handles w → Learns o.run o.run o.handles o.handles v w → Shown g e (board s.words s.homes (set s.views id w))
+  pub own_goes : w.mine ≡ v.mine → w.births ≡ v.births → w.splits ≡ v.splits → w.claim ≡ v.claim → w.issuing ≡ v.issuing → w.issue_turn ≡ v.issue_turn → Fits g e o.run o.loans o.handles w → Learns o.run o.run o.handles o.handles v w → Shown g e (board s.words s.homes (set s.views id w))
   own_goes em eb es ec ei ed fits learns = run_stays em eb es (λ k. ap (claim_at k) ec) fits learns s.words s.homes (same_words (λ k. ap (number_at k) ei) (λ k. ap (late_at k) ec) (ap turn_of ed))
 
   -- THE WORK OF A LINE goes on: the seat that has it keeps it
   module _ (c c' : Claim) (has : v.claim ≡ Some c) (line : c'.line ≡ c.line) (event : c'.event ≡ c.event)
       (is : w ≡ record { keys = v.keys; mine = v.mine; births = v.births; splits = v.splits; issued = v.issued; ended = v.ended; named = v.named; saw = w.saw; issue_states = w.issue_states; laid = w.laid; gave_up = w.gave_up; closed = w.closed; times = v.times; let_go = w.let_go; claim = Some c'; issuing = v.issuing; issue_turn = v.issue_turn }) where
-    goes_on : (after : Run) → Aside c.line o.run after → Progress g after c' → Goes o.run after o.handles o.handles
+    goes_on : (after : Run) → Aside c.line o.run after → stage_at after.stages c'.line ≡ working c'.ends → Goes o.run after o.handles o.handles
     goes_on after a p =
         let f = o.each_view id v me in
         let was = (f.claim c has).stage in
-        let now : stage_at after.stages c.line ≡ working c'.ends = subst (λ k. stage_at after.stages k ≡ working c'.ends) line p.stage in
+        let now : stage_at after.stages c.line ≡ working c'.ends = subst (λ k. stage_at after.stages k ≡ working c'.ends) line p in
         record {
           issued = λ j h. elim (cases_eq j c.line) [
             | inl q ↦ ap (λ k. stage_issued (stage_at after.stages k)) q ∙ working_issued c'.ends now
@@ -216,9 +221,9 @@ module _ (g : GraphValue) (e : Events) (s : St) (o : Shown g e s) (id : ℕ) (v 
         }
 
     -- nothing that another seat could know comes of it
-    work_learns : (after : Run) → Aside c.line o.run after → Progress g after c' → ((j : ℕ) → issued after.stages j ≡ issued o.run.stages j) → Learns o.run after o.handles o.handles v w
+    work_learns : (after : Run) → Aside c.line o.run after → stage_at after.stages c'.line ≡ working c'.ends → ((j : ℕ) → issued after.stages j ≡ issued o.run.stages j) → Learns o.run after o.handles o.handles v w
     work_learns after a p same =
-        let now : stage_at after.stages c.line ≡ working c'.ends = subst (λ k. stage_at after.stages k ≡ working c'.ends) line p.stage in
+        let now : stage_at after.stages c.line ≡ working c'.ends = subst (λ k. stage_at after.stages k ≡ working c'.ends) line p in
         record {
           keeps = record {
             issued = λ j h. subst (λ (x : View). Contains x.issued j) (sym is) h;
@@ -240,36 +245,39 @@ module _ (g : GraphValue) (e : Events) (s : St) (o : Shown g e s) (id : ℕ) (v 
     unissued_other : (k : ℕ) → stage_at o.run.stages k ≡ Unissued → k ≡ c.line → ⊥
     unissued_other k u q = true≢false (sym (working_issued c.ends ((o.each_view id v me).claim c has).stage) ∙ ap stage_issued (ap (stage_at o.run.stages) (sym q) ∙ u))
 
-    pub claim_goes : (after : Run) (ws : List ℕ) (hs : List (mathlib.Core.Option.Option Content)) → Aside c.line o.run after → Progress g after c' → Sound g after → ((j : ℕ) → issued after.stages j ≡ issued o.run.stages j)
-        → WordsShow g e (size_of g) after o.handles (λ k. total (issues_at k) (set s.views id w)) (λ k. total (owes_at k) (set s.views id w)) (total has_issue_turn (set s.views id w)) ws hs
+    -- the seat may move columns and shares
+    pub claim_goes_lent : (after : Run) (lent : Loans) (ws : List ℕ) (hs : List (mathlib.Core.Option.Option Content)) → Aside c.line o.run after → Lends g c.line o.run.places after.places o.loans lent → Progress g after lent c' → Sound g after
+        → ((j : ℕ) → issued after.stages j ≡ issued o.run.stages j)
+        → ((k j : ℕ) → k < length (columns g) → j < share_count g k → lent.holder k j ≡ c.line + 1 → out after.stages c.line ≡ true)
+        → WordsShow g e (size_of g) after lent o.handles (λ k. total (issues_at k) (set s.views id w)) (λ k. total (owes_at k) (set s.views id w)) (total has_issue_turn (set s.views id w)) ws hs
         → Shown g e (board ws hs (set s.views id w))
-    claim_goes after ws hs a p sound same words =
+    claim_goes_lent after lent ws hs a lends p sound same is_out words =
         let f = o.each_view id v me in
-        let go = goes_on after a p in
+        let go = goes_on after a p.stage in
         let wc : w.claim ≡ Some c' = ap (λ (x : View). x.claim) is in
-        let fits : Fits g e after o.handles (record { keys = v.keys; mine = v.mine; births = v.births; splits = v.splits; issued = v.issued; ended = v.ended; named = v.named; saw = w.saw; issue_states = w.issue_states; laid = w.laid; gave_up = w.gave_up; closed = w.closed; times = v.times; let_go = w.let_go; claim = Some c'; issuing = v.issuing; issue_turn = v.issue_turn }) = record {
+        let fits : Fits g e after lent o.handles (record { keys = v.keys; mine = v.mine; births = v.births; splits = v.splits; issued = v.issued; ended = v.ended; named = v.named; saw = w.saw; issue_states = w.issue_states; laid = w.laid; gave_up = w.gave_up; closed = w.closed; times = v.times; let_go = w.let_go; claim = Some c'; issuing = v.issuing; issue_turn = v.issue_turn }) = record {
           keys = f.keys;
           issued = λ j h. go.issued j (f.issued j h);
           ended = λ j x h. go.ended j x (f.ended j x h);
           times = λ j t h. go.times j t (f.times j t h);
           named = f.named;
-          claim = λ d q. subst (Progress g after) (same_Some c' d q) p;
+          claim = λ d q. subst (Progress g after lent) (same_Some c' d q) p;
           event = λ d q. subst (λ (x : Claim). handle_at o.handles x.line ≡ x.event) (same_Some c' d q) (ap (handle_at o.handles) line ∙ (f.event c has ∙ sym event));
           issuing = λ k q. let u = f.issuing k q in (a.stages k (unissued_other k u.0) ∙ u.0, u.1);
           issuer = f.issuer;
           issue_turn = f.issue_turn;
           idle = λ n. absurd (none-some c (sym (f.idle n).0 ∙ has));
         } in
-        steps after o.handles ws hs go
+        steps after lent o.handles ws hs go
         (λ j u other at. let fu = o.each_view j u at in record {
-          claim = λ d q p. progress_on c.line a d (works_alone c.line j u c d other at has refl q) p;
+          claim = λ d q p. progress_on c.line a lends d (works_alone c.line j u c d other at has refl q) p;
           issuing = λ k q. let uk = (fu.issuing k q).0 in a.stages k (unissued_other k uk) ∙ uk;
           issue_turn = fu.issue_turn;
         })
         (ap (λ (x : View). x.mine) is) (ap (λ (x : View). x.births) is) (ap (λ (x : View). x.splits) is)
         sound
         (record { each_issued = λ j. subst (λ b. (b ≡ true) ↔ (j < length o.handles)) (sym (same j)) (o.are_handles.each_issued j); once = o.are_handles.once })
-        (subst (Fits g e after o.handles) (sym is) fits)
+        (subst (Fits g e after lent o.handles) (sym is) fits)
         (λ k. elim (cases_eq k c.line) [
           | inl q ↦ (
               let moved = sum_same (runs_at k) s.views id v w me (claim_here k w c' wc (line ∙ sym q) ∙ sym (claim_here k v c has (sym q))) in
@@ -280,5 +288,21 @@ module _ (g : GraphValue) (e : Events) (s : St) (o : Shown g e s) (id : ℕ) (v 
               let moved = sum_same (runs_at k) s.views id v w me (claim_there k w c' wc (λ q. n (sym q ∙ line)) ∙ sym (claim_there k v c has (λ q. n (sym q)))) in
               moved ∙ (o.works k ∙ ap busy (sym (a.stages k n))))
         ])
+        (λ d j k l f h. elim (cases_eq k c.line) [
+          | inl q ↦ subst (λ n. out after.stages n ≡ true) (sym q) (is_out d j l f (subst (λ n. lent.holder d j ≡ n + 1) q h))
+          | inr n ↦ ap stage_out (a.stages k n) ∙ o.holders d j k l f (lends.were d j k n h)
+        ])
         words
-        (work_learns after a p same)
+        (work_learns after a p.stage same)
+
+    -- or it moves none
+    pub claim_goes : (after : Run) (ws : List ℕ) (hs : List (mathlib.Core.Option.Option Content)) → Aside c.line o.run after → after.places ≡ o.run.places → Progress g after o.loans c' → Sound g after
+        → ((j : ℕ) → issued after.stages j ≡ issued o.run.stages j) → (c'.shares ≡ [] ⊎ (stage_at after.stages c.line ≡ stage_at o.run.stages c.line))
+        → WordsShow g e (size_of g) after o.loans o.handles (λ k. total (issues_at k) (set s.views id w)) (λ k. total (owes_at k) (set s.views id w)) (total has_issue_turn (set s.views id w)) ws hs
+        → Shown g e (board ws hs (set s.views id w))
+    claim_goes after ws hs a still_there p sound same none_or words = claim_goes_lent after o.loans ws hs a (subst (λ ps. Lends g c.line o.run.places ps o.loans o.loans) (sym still_there) (lends_same g c.line o.run.places o.loans)) p sound same
+        (λ k j l f h. ⊎_elim
+        (λ (none : c'.shares ≡ []). let m = p.shares.all k j l f (h ∙ ap (λ n. n + 1) (sym line)) in absurd (contains_none m.0 (subst (λ ss. Contains ss m.0) none m.1)))
+        (λ (q : stage_at after.stages c.line ≡ stage_at o.run.stages c.line). ap stage_out q ∙ o.holders k j c.line l f h)
+        none_or)
+        words

@@ -5,7 +5,6 @@ use Rattle.std.specs.List.{list_any}
 use Rattle.std.proofs.lemmas.Bool.{true≢false}
 use Rattle.std.proofs.lemmas.Option.{none-some}
 use Rattle.std.proofs.lemmas.List.Elements.{Contains-append_left, Contains-append_cases}
-use Rattle.index_spaces.specs.Column.{ColumnValue}
 use Rattle.graph_terms.specs.declared.outcome.End.{End}
 use Rattle.graph_terms.specs.declared.outcome.End.TheVariants.{Cancelled}
 use Rattle.graph_terms.specs.Graph.{GraphValue, line_passes, is_shared}
@@ -35,7 +34,8 @@ use Rattle.run_words.specs.Rule.{ground_of, child}
 use Rattle.run_words.specs.Plays.{Sat, HasClaimed, missed, claimed_at, saw_at, saw_all, on_claim, holding, let_go_at, lets_go, gave_up_at, unclaims, child_of, parent_of, joined, looked_at, own_number}
 use Rattle.run_words.specs.Premises.{Has, MayLock, IsBare, OnTop}
 use Rattle.run_words.specs.Sources.{cancels_in}
-use Rattle.run_words.specs.Laden.{Taking}
+use Rattle.run_words.specs.Laden.{Seen, Taking}
+use Rattle.run_words.specs.declared.loads.Load.{Load}
 use Rattle.run_words.specs.Attempts.{IsClaimed, IsHeldAfter, IsLoaded, IsRefused, HasAllOf, IsRefusedAll, IsColumn, LetGoFor}
 use Rattle.run_words.proofs.AnswerFacts.{busy_later}
 use Rattle.run_words.proofs.TakingTurn.{has_key}
@@ -45,39 +45,42 @@ abbrev Left : Type 0
 Left = List (ℕ × Content)
 
 -- a claim with no column
-pub taking_first : (g : GraphValue) (line : ℕ) (v : View) (h : Handle) (b : Bool) (left : Left) (m : Sat) → eval_end g line ≢ Cancelled → m ≡ (record v { claim = Some (holding b (new_claim line h)) }, left) → Taking g line 0 v (holding b (new_claim line h)) left m []
-taking_first g line v h b left m real q = record {
+pub taking_first : (g : GraphValue) (line : ℕ) (v : View) (h : Handle) (b : Bool) (left : Left) (m : Sat) (numbers : List ℕ) → eval_end g line ≢ Cancelled → m ≡ (record v { claim = Some (holding b (new_claim line h)) }, left) → Taking g line 0 v (holding b (new_claim line h)) left m [] numbers
+taking_first g line v h b left m numbers real q = record {
+  taken = [];
   line_is = refl;
   going = refl;
   real = real;
   no_puts = refl;
   now = q;
   stacked = refl;
-  below = λ c ks at. absurd (contains_none {X = ℕ × List ℕ} (c, ks) at);
+  below = λ t at. absurd (contains_none t at);
   apart = tt;
-  has = λ c ks at. absurd (contains_none {X = ℕ × List ℕ} (c, ks) at);
+  has = λ t at. absurd (contains_none t at);
   only = λ c x at. absurd (none-some x at);
+  numbered = λ k a s at has q. absurd (contains_none (Seen s) has);
   size = refl;
 }
 
-pub all_of : (g : GraphValue) (line : ℕ) (v : View) (pending : Pending) (b : Bool) (m : Sat) (held : List (ℕ × ColumnValue)) → IsLoaded g line v (holding b (new_claim line (handle_of pending))) ((line, PendingEvent pending) ∷ []) m held → ((l : ℕ) → Acquires g line l → eval_end g line ≢ Cancelled → b ≡ true) → HasAllOf g line false v pending m held
-all_of g line v pending b m held l holds = record {
-  saw = (looked_at (saw_all v l.2) line l.0).saw;
+pub all_of : (g : GraphValue) (line : ℕ) (v : View) (pending : Pending) (b : Bool) (m : Sat) (x : Load) → IsLoaded g line v (holding b (new_claim line (handle_of pending))) ((line, PendingEvent pending) ∷ []) m x → ((l : ℕ) → Acquires g line l → eval_end g line ≢ Cancelled → b ≡ true) → HasAllOf g line false v pending m x
+all_of g line v pending b m x l holds = record {
+  saw = (looked_at (saw_all v l.1) line l.0).saw;
   issued = (looked_at v line l.0).issued;
   ended = (looked_at v line l.0).ended;
-  claim = record (holding b (new_claim line (handle_of pending))) { columns = l.1 };
+  claim = holding b (new_claim line (handle_of pending));
   named = refl;
   line_is = refl;
   going = refl;
   untimed = refl;
   fresh = (refl, refl);
+  empty = (refl, refl);
   holds = holds;
   bare = λ q. absurd (true≢false (sym q));
-  loaded = λ _. l.3;
+  loaded = λ _. l.2;
 }
 
-pub bare_of : (g : GraphValue) (line : ℕ) (v : View) (pending : Pending) (b : Bool) (m : Sat) (held : List (ℕ × ColumnValue)) → b ≡ true → eval_end g line ≡ Cancelled → IsClaimed line v pending m → HasAllOf g line b v pending m held
-bare_of g line v pending b m held is_so cancelled is = record {
+pub bare_of : (g : GraphValue) (line : ℕ) (v : View) (pending : Pending) (b : Bool) (m : Sat) (x : Load) → b ≡ true → eval_end g line ≡ Cancelled → IsClaimed line v pending m → HasAllOf g line b v pending m x
+bare_of g line v pending b m x is_so cancelled is = record {
   saw = v.saw;
   issued = v.issued;
   ended = v.ended;
@@ -87,6 +90,7 @@ bare_of g line v pending b m held is_so cancelled is = record {
   going = refl;
   untimed = refl;
   fresh = (refl, refl);
+  empty = (refl, refl);
   holds = λ l a real. absurd (real cancelled);
   bare = λ _. (cancelled, is);
   loaded = λ q. absurd (true≢false (sym is_so ∙ q));
@@ -94,7 +98,7 @@ bare_of g line v pending b m held is_so cancelled is = record {
 
 -- a line that holds its reservation lets it go
 pub may_let_go : (g : GraphValue) (line l : ℕ) (v : View) (h : Handle) (left : Left) (thing : Thing) (m : Sat) → Acquires g line l → IsRefused g line v (holding true (new_claim line h)) left thing m → Has m.0 (λ cl. (cl.line ≡ line) × Acquires g line l × (cl.holds ≡ true) × (cl.time ≡ None))
-may_let_go g line l v h left thing m a r = (record (holding true (new_claim line h)) { columns = [] }, ap (λ (y : Sat). y.0.claim) r.2, (refl, a, refl, refl))
+may_let_go g line l v h left thing m a r = (holding true (new_claim line h), ap (λ (y : Sat). y.0.claim) r.2, (refl, a, refl, refl))
 
 column_any : (x : Thing) (before after : List ℕ) → IsColumn x → LetGoFor x before after
 column_any (things.Lock l) before after c = absurd c
@@ -119,8 +123,8 @@ pub held_then : (line w r : ℕ) (v : View) (pending : Pending) (m n o : Sat) �
 held_then line w r v pending m n o is q p = ((w, r) ∷ [], p ∙ ap (λ (y : Sat). sat (on_claim (holding true) y.0) y.1) (q ∙ ap (λ (y : Sat). sat (saw_at y.0 w r) y.1) is))
 
 -- what was found before the reservation was taken adds to what was found
-pub all_later : (g : GraphValue) (line : ℕ) (b : Bool) (v : View) (found : List (ℕ × ℕ)) (pending : Pending) (m : Sat) (held : List (ℕ × ColumnValue)) → HasAllOf g line b (saw_all v found) pending m held → HasAllOf g line b v pending m held
-all_later g line b v found pending m held h = record {
+pub all_later : (g : GraphValue) (line : ℕ) (b : Bool) (v : View) (found : List (ℕ × ℕ)) (pending : Pending) (m : Sat) (x : Load) → HasAllOf g line b (saw_all v found) pending m x → HasAllOf g line b v pending m x
+all_later g line b v found pending m x h = record {
   saw = h.saw;
   issued = h.issued;
   ended = h.ended;
@@ -130,6 +134,7 @@ all_later g line b v found pending m held h = record {
   going = h.going;
   untimed = h.untimed;
   fresh = h.fresh;
+  empty = h.empty;
   holds = h.holds;
   bare = h.bare;
   loaded = h.loaded;
@@ -187,7 +192,7 @@ pub may_unclaim : (g : GraphValue) (e : Events) (line : ℕ) (v : View) (pending
 may_unclaim g e line v pending thing m r of = (
   new_claim line (handle_of pending),
   ap (λ (y : Sat). y.0.claim) r.4,
-  (refl, record { going = refl; columns = refl; puts = refl; held = refl; arrived = refl; time = refl }, (pending, ([], ap (λ (y : Sat). y.1) r.4), of, refl)),
+  (refl, record { going = refl; columns = refl; shares = refl; puts = refl; held = refl; arrived = refl; time = refl }, (pending, ([], ap (λ (y : Sat). y.1) r.4), of, refl)),
 )
 
 pub unclaimed : (g : GraphValue) (line : ℕ) (v : View) (pending : Pending) (thing : Thing) (m n : Sat) (r : IsRefusedAll g line v pending thing m) → v.claim ≡ None → unclaims m n → n ≡ (record (saw_all v r.0) { let_go = r.1; gave_up = v.gave_up ++ line ∷ [] }, [])
@@ -198,13 +203,13 @@ by_bool true = inl refl
 by_bool false = inr refl
 
 -- THE WORK
-own_of : (g : GraphValue) (line : ℕ) (b : Bool) (v : View) (pending : Pending) (m : Sat) (held : List (ℕ × ColumnValue)) → HasAllOf g line b v pending m held → (m.0.mine ≡ v.mine) × (m.0.splits ≡ v.splits)
-own_of g line b v pending m held h = ⊎_elim
+own_of : (g : GraphValue) (line : ℕ) (b : Bool) (v : View) (pending : Pending) (m : Sat) (x : Load) → HasAllOf g line b v pending m x → (m.0.mine ≡ v.mine) × (m.0.splits ≡ v.splits)
+own_of g line b v pending m x h = ⊎_elim
     (λ (t : b ≡ true). (ap (λ (y : Sat). y.0.mine) (h.bare t).1, ap (λ (y : Sat). y.0.splits) (h.bare t).1))
     (λ (f : b ≡ false). let n = h.loaded f in (ap (λ (y : Sat). y.0.mine) n.now, ap (λ (y : Sat). y.0.splits) n.now))
     (by_bool b)
 
-pub work_of : (w : Words) (k : WordWork) (v : View) (pending : Pending) → HasAllOf (graph_of w) k.line k.is_cancelled v pending k.inner.me k.held → IsSeatOf w k.inner → k.line < length (graph_of w).lines → DidNothing v → v.issuing ≡ None → v.issue_turn ≡ None → IsPendingOf (events_of w) pending → IsWorkOf w k
+pub work_of : (w : Words) (k : WordWork) (v : View) (pending : Pending) → HasAllOf (graph_of w) k.line k.is_cancelled v pending k.inner.me k.load → IsSeatOf w k.inner → k.line < length (graph_of w).lines → DidNothing v → v.issuing ≡ None → v.issue_turn ≡ None → IsPendingOf (events_of w) pending → IsWorkOf w k
 work_of w k v pending h at near aside issuing issue_turn of = record {
   at = at;
   near = near;
@@ -216,36 +221,37 @@ work_of w k v pending h at near aside issuing issue_turn of = record {
   issue_turn = issue_turn;
   of = of;
   named = h.named;
-  mine = (own_of (graph_of w) k.line k.is_cancelled v pending k.inner.me k.held h).0;
-  splits = (own_of (graph_of w) k.line k.is_cancelled v pending k.inner.me k.held h).1;
+  mine = (own_of (graph_of w) k.line k.is_cancelled v pending k.inner.me k.load h).0;
+  splits = (own_of (graph_of w) k.line k.is_cancelled v pending k.inner.me k.load h).1;
   line_is = h.line_is;
   going = h.going;
   untimed = h.untimed;
   fresh = h.fresh;
+  empty = h.empty;
   holds = h.holds;
   cancelled = h.bare;
   loaded = h.loaded;
 }
 
 -- the event of the claim
-event_in : (g : GraphValue) (line : ℕ) (b : Bool) (v : View) (pending : Pending) (m : Sat) (held : List (ℕ × ColumnValue)) → HasAllOf g line b v pending m held → event_of m.0.claim ≡ Some (handle_of pending)
-event_in g line b v pending m held h = ⊎_elim
+event_in : (g : GraphValue) (line : ℕ) (b : Bool) (v : View) (pending : Pending) (m : Sat) (x : Load) → HasAllOf g line b v pending m x → event_of m.0.claim ≡ Some (handle_of pending)
+event_in g line b v pending m x h = ⊎_elim
     (λ (t : b ≡ true). ap (λ (y : Sat). event_of y.0.claim) (h.bare t).1 ∙ ap Some (sym h.named))
     (λ (f : b ≡ false). ap (λ (y : Sat). event_of y.0.claim) (h.loaded f).now ∙ ap Some (sym h.named))
     (by_bool b)
 
-pub own_event : (g : GraphValue) (line : ℕ) (b : Bool) (v0 : View) (m n o : Sat) (held : List (ℕ × ColumnValue)) (k : HasClaimed line m n) → m.0.named ≡ v0.named → HasAllOf g line b m.0 k.pending o held
+pub own_event : (g : GraphValue) (line : ℕ) (b : Bool) (v0 : View) (m n o : Sat) (x : Load) (k : HasClaimed line m n) → m.0.named ≡ v0.named → HasAllOf g line b m.0 k.pending o x
     → (hs : List Handle) (h : Handle) → Contains v0.named hs → slice_get hs line ≡ Some h → event_of o.0.claim ≡ Some h
-own_event g line b v0 m n o held k same a hs h known at = event_in g line b m.0 k.pending o held a ∙ ap Some (k.known hs h (subst (λ l. Contains l hs) (sym same) known) at)
+own_event g line b v0 m n o x k same a hs h known at = event_in g line b m.0 k.pending o x a ∙ ap Some (k.known hs h (subst (λ l. Contains l hs) (sym same) known) at)
 
 -- a seat that was just split off
 pub young_aside : (v0 : View) (m : Sat) → m ≡ (child_of v0, []) → DidNothing m.0
 young_aside v0 m q = (ap (λ (y : Sat). y.0.issue_states) q, ap (λ (y : Sat). y.0.laid) q, ap (λ (y : Sat). y.0.gave_up) q, ap (λ (y : Sat). y.0.closed) q, ap (λ (y : Sat). y.0.let_go) q)
 
-pub out_of : (w : Words) (k : WordWork) (v0 v : View) (hand : Left) (m n : Sat) (pending : Pending) → HasAllOf (graph_of w) k.line k.is_cancelled v pending k.inner.me k.held → n ≡ (parent_of v0, hand) → v ≡ child_of v0
+pub out_of : (w : Words) (k : WordWork) (v0 v : View) (hand : Left) (m n : Sat) (pending : Pending) → HasAllOf (graph_of w) k.line k.is_cancelled v pending k.inner.me k.load → n ≡ (parent_of v0, hand) → v ≡ child_of v0
     → (j : ℕ) × (n.0.mine ≡ v0.mine) × (n.0.splits ≡ v0.splits ++ j ∷ []) × (k.inner.me.0.mine ≡ j ∷ []) × (k.inner.me.0.splits ≡ [])
 out_of w k v0 v hand m n pending h p q =
-    let own = own_of (graph_of w) k.line k.is_cancelled v pending k.inner.me k.held h in
+    let own = own_of (graph_of w) k.line k.is_cancelled v pending k.inner.me k.load h in
     (child (own_number v0.mine) v0.births, ap (λ (y : Sat). y.0.mine) p, ap (λ (y : Sat). y.0.splits) p, own.0 ∙ ap (λ (y : View). y.mine) q, own.1 ∙ ap (λ (y : View). y.splits) q)
 
 -- A SEAT THAT WAS SPLIT OFF AND JOINED AGAIN

@@ -1,189 +1,221 @@
--- A line takes one more of its columns.
-use Rattle.std.proofs.Common.{◌≡◌, ◌≢◌, ℕ, zero, suc, ◌≤◌, ◌+◌, inl, inr, List, [], ◌∷◌, ◌++◌, length, refl, sym, ◌∙◌, ap, subst, arith, ⊎_elim, append_assoc}
-use Rattle.std.specs.Prelude.{Contains, Option, Some, None, slice_get}
-use Rattle.std.proofs.lemmas.Bool.{cases_eq}
+-- A line takes what one more of its accesses names.
+use Rattle.std.proofs.Common.{◌≡◌, ◌≢◌, ℕ, zero, suc, ◌<◌, ◌≤◌, ◌+◌, inl, inr, true, false, cond, List, [], ◌∷◌, ◌++◌, length, refl, sym, ◌∙◌, ap, subst, arith, ⊎_elim}
+use Rattle.std.specs.Prelude.{Contains, Option, Some, None, slice_get, slice_index, option_map}
+use Rattle.std.proofs.lemmas.Bool.{cases_eq, true≢false}
 use Rattle.std.proofs.lemmas.Option.{none-some, same_Some}
 use Rattle.std.proofs.lemmas.List.{append-nil}
 use Rattle.std.proofs.lemmas.List.Elements.{Contains-append_left, Contains-append_right}
 use Rattle.index_spaces.specs.Column.{ColumnValue}
-use Rattle.index_spaces.specs.Held.{held_at, HoldsOtherwise}
+use Rattle.index_spaces.specs.Held.{HeldList, held_at, lending_at}
+use Rattle.graph_terms.specs.declared.verb.Access.{Access}
+use Rattle.graph_terms.specs.Access.{accesses, is_read}
 use Rattle.graph_terms.specs.Graph.{GraphValue}
-use Rattle.shared_events.specs.declared.events.Events.{Events}
 use Rattle.basics.proofs.ListFacts.{contains_here, contains_there, contains_cases}
-use Rattle.run_state.specs.Run.{is_listed}
 use Rattle.run_state.specs.Sound.{AccessesColumn, home_cells}
 use Rattle.run_state.specs.WholeLine.{column_list}
+use Rattle.share_words.specs.Shares.{share_count}
 use Rattle.run_words.specs.declared.content.Content.{Content}
-use Rattle.run_words.specs.declared.content.Content.TheVariants.{Nothing, PendingEvent, EventReceipt, Cells, Issuer}
 use Rattle.run_words.specs.declared.view.View.{View}
-use Rattle.run_words.specs.Claims.{Claim}
-use Rattle.run_words.specs.Layout.{size_of, turn_word, column_slot}
-use Rattle.run_words.specs.Rule.{ground_of, column_with}
-use Rattle.run_words.specs.Plays.{Sat, on_claim, took, HasTurn, saw_at, saw_all}
-use Rattle.run_words.specs.Premises.{Has, MayTake}
-use Rattle.run_words.specs.Laden.{Stacked, IsFree, AreFree, Taking, TakingAs, TookFree}
-use Rattle.run_words.proofs.TakingTurn.{has_key}
-use Rattle.run_words.proofs.Turns.{sat}
+use Rattle.run_words.specs.Claims.{Claim, TakenShare}
+use Rattle.run_words.specs.Layout.{size_of, turn_word, share_word}
+use Rattle.run_words.specs.Rule.{column_with}
+use Rattle.run_words.specs.Plays.{Sat, saw_all}
+use Rattle.run_words.specs.Premises.{Has}
+use Rattle.run_words.specs.Laden.{Taken, Whole, Seen, taken_column, with_taken, hand_of, FitsAccess, HoldsTaken, IsWordOf, IsFree, AreFree, IsAway, FoundOther, Taking, TookFree}
+use Rattle.run_words.specs.declared.loads.Load.{Load}
+use Rattle.run_words.specs.Gathering.{after, MayGather, GainsOne, NotesNumber, TakesWhole, FindsWhole, TakesSome, FindsSeen}
+use Rattle.run_words.specs.Taking.{TakesAccess}
+use Rattle.run_words.proofs.TakenFacts.{get_map, column_taken, share_taken, fits_column, holds_on, seen_one}
 
-abbrev Pairs : Type 0
-Pairs = List (ℕ × List ℕ)
+abbrev is_seen : Taken → Rattle.std.proofs.Common.Bool
+is_seen (Whole c ks us) = false
+is_seen (Seen s) = true
 
-abbrev pub column_in : ColumnValue → Content → ColumnValue
-column_in x (Cells y) = y
-column_in x Nothing = x
-column_in x (PendingEvent p) = x
-column_in x (EventReceipt p) = x
-column_in x (Issuer p) = x
-
--- no more columns than accesses
-pub stacked_few : (xs : List ℕ) (k : ℕ) (columns : Pairs) → Stacked xs k columns → length columns ≤ k
-stacked_few xs zero columns s = omega (arith, ap (λ (l : Pairs). length l) s)
-stacked_few xs (suc k) columns s = ⊎_elim
-    (λ n. omega (arith, stacked_few xs k columns n.1))
-    (λ (r : (d : ℕ) × (ks : List ℕ) × (more : Pairs) × (slice_get xs k ≡ Some d) × (columns ≡ (d, ks) ∷ more) × Stacked xs k more). omega (arith, stacked_few xs k r.2 r.5, ap (λ (l : Pairs). length l) r.4))
-    s
+not_seen : (c : ℕ) (ks : List ℕ) (us : List TakenShare) (s : TakenShare) → Whole c ks us ≡ Seen s → ⊥
+not_seen c ks us s e = true≢false (sym (ap is_seen e))
 
 -- an access that is not there changes nothing
-pub skip_ahead : (g : GraphValue) (line k : ℕ) (v : View) (cl : Claim) (left : List (ℕ × Content)) (m : Sat) (held : List (ℕ × ColumnValue)) → Taking g line k v cl left m held → slice_get (column_list g line) k ≡ None → Taking g line (suc k) v cl left m held
-skip_ahead g line k v cl left m held l at = record {
+pub skip_ahead : (g : GraphValue) (line k : ℕ) (v : View) (cl : Claim) (left : List (ℕ × Content)) (m : Sat) (held : HeldList) (numbers : List ℕ) → Taking g line k v cl left m held numbers → slice_get (accesses g line) k ≡ None → Taking g line (suc k) v cl left m held numbers
+skip_ahead g line k v cl left m held numbers l at = record {
+  taken = l.taken;
   line_is = l.line_is;
   going = l.going;
   real = l.real;
   no_puts = l.no_puts;
   now = l.now;
   stacked = inl (at, l.stacked);
-  below = λ d ks has. let b = l.below d ks has in (b.0, (let less = b.1 in omega (arith, less)), b.2);
+  below = λ t has. let b = l.below t has in (b.0, (let less = b.1 in omega (arith, less)), b.2);
   apart = l.apart;
   has = l.has;
   only = l.only;
+  numbered = l.numbered;
   size = l.size;
 }
 
--- a load of another word changes nothing
-pub taking_saw : (g : GraphValue) (line k : ℕ) (v : View) (cl : Claim) (left : List (ℕ × Content)) (m n : Sat) (held held' : List (ℕ × ColumnValue)) (w r : ℕ) → Taking g line k v cl left m held → n ≡ (saw_at m.0 w r, m.1) → held' ≡ held → Taking g line k (saw_at v w r) cl left n held'
-taking_saw g line k v cl left m n held held' w r l q h = subst (Taking g line k (saw_at v w r) cl left n) (sym h) (record {
+-- what was found besides changes nothing
+pub taking_found : (g : GraphValue) (line k : ℕ) (v : View) (cl : Claim) (left : List (ℕ × Content)) (m n : Sat) (held : HeldList) (numbers : List ℕ) (found : List (ℕ × ℕ)) → Taking g line k v cl left m held numbers → n ≡ after found m → Taking g line k (saw_all v found) cl left n held numbers
+taking_found g line k v cl left m n held numbers found l q = record {
+  taken = l.taken;
   line_is = l.line_is;
   going = l.going;
   real = l.real;
   no_puts = l.no_puts;
-  now = q ∙ ap (λ (y : Sat). sat (saw_at y.0 w r) y.1) l.now;
+  now = q ∙ ap (after found) l.now;
   stacked = l.stacked;
   below = l.below;
   apart = l.apart;
   has = l.has;
   only = l.only;
+  numbered = l.numbered;
   size = l.size;
-})
+}
 
--- what was found twice in a row was found
 pub saw_none : (v : View) → v ≡ saw_all v []
 saw_none v = λ t. record v { saw = sym (append-nil v.saw) t }
 
 pub saw_more : (v : View) (first more : List (ℕ × ℕ)) → saw_all (saw_all v first) more ≡ saw_all v (first ++ more)
-saw_more v first more = λ t. record v { saw = append_assoc v.saw first more t }
+saw_more v first more = λ t. record v { saw = Rattle.std.proofs.Common.append_assoc v.saw first more t }
 
--- a line that has no access k needs no column more
-pub took_none : (g : GraphValue) (line k : ℕ) (v : View) (cl : Claim) (left : List (ℕ × Content)) (m : Sat) (held : List (ℕ × ColumnValue)) → Taking g line k v cl left m held → slice_get (column_list g line) k ≡ None
-    → (found : List (ℕ × ℕ)) × IsFree g line k found × TakingAs g line (suc k) (saw_all v found) cl left m held
-took_none g line k v cl left m held l at = (
+-- a line that has no access k needs nothing more
+pub took_none : (g : GraphValue) (line k : ℕ) (m : Sat) (x : Load) → slice_get (accesses g line) k ≡ None → TakesAccess g line k m x m x
+took_none g line k m x at v cl left l = (
   [],
-  λ c is. absurd (none-some c (sym at ∙ is)),
-  (cl.columns, subst (λ u. Taking g line (suc k) u cl left m held) (saw_none v) (skip_ahead g line k v cl left m held l at)),
-)
-
-pub took_one : (g : GraphValue) (line k c : ℕ) (v : View) (cl : Claim) (left : List (ℕ × Content)) (n : Sat) (held : List (ℕ × ColumnValue)) → slice_get (column_list g line) k ≡ Some c → TakingAs g line (suc k) (saw_at v (turn_word (size_of g) c) 0) cl left n held
-    → (found : List (ℕ × ℕ)) × IsFree g line k found × TakingAs g line (suc k) (saw_all v found) cl left n held
-took_one g line k c v cl left n held at t = (
-  (turn_word (size_of g) c, 0) ∷ [],
-  λ d is. subst (λ j. Contains {X = ℕ × ℕ} ((turn_word (size_of g) c, 0) ∷ []) (turn_word (size_of g) j, 0)) (same_Some c d (sym at ∙ is)) (contains_here {X = ℕ × ℕ} (turn_word (size_of g) c, 0) []),
-  t,
+  λ a is. absurd (none-some a (sym at ∙ is)),
+  subst (λ u. Taking g line (suc k) u cl left m x.held x.numbers) (saw_none v) (skip_ahead g line k v cl left m x.held x.numbers l at),
 )
 
 -- nothing was taken yet
-pub took_first : (g : GraphValue) (line : ℕ) (v : View) (cl : Claim) (left : List (ℕ × Content)) (m : Sat) (held : List (ℕ × ColumnValue)) → Taking g line 0 v cl left m held → TookFree g line 0 v cl left m held
-took_first g line v cl left m held l = ([], λ j low. absurd (omega (arith, low)), (cl.columns, subst (λ u. Taking g line 0 u cl left m held) (saw_none v) l))
+pub took_first : (g : GraphValue) (line : ℕ) (v : View) (cl : Claim) (left : List (ℕ × Content)) (m : Sat) (held : HeldList) (numbers : List ℕ) → Taking g line 0 v cl left m held numbers → TookFree g line 0 v cl left m held numbers
+took_first g line v cl left m held numbers l = ([], λ j low. absurd (omega (arith, low)), subst (λ u. Taking g line 0 u cl left m held numbers) (saw_none v) l)
 
--- and one column more was found free
+-- what is found free is so with what was found before, and after
+pub free_in : (g : GraphValue) (line k : ℕ) (found then : List (ℕ × ℕ)) → ((x : ℕ × ℕ) → Contains found x → Contains then x) → IsFree g line k found → IsFree g line k then
+free_in g line k found then up f a at = both (is_read a.mode) (f a at)
+  where
+    both : (b : Rattle.std.proofs.Common.Bool) → cond b ((n : ℕ) × (0 < n) × (n < share_count g a.column) × Contains found (share_word (size_of g) a.column n, 0)) ((w : ℕ) → IsWordOf g a.column w → Contains found (w, 0))
+        → cond b ((n : ℕ) × (0 < n) × (n < share_count g a.column) × Contains then (share_word (size_of g) a.column n, 0)) ((w : ℕ) → IsWordOf g a.column w → Contains then (w, 0))
+    both true h = (h.0, h.1, h.2, up (share_word (size_of g) a.column h.0, 0) h.3)
+    both false h = λ w i. up (w, 0) (h w i)
+
 pub free_more : (g : GraphValue) (line k : ℕ) (first more : List (ℕ × ℕ)) → AreFree g line k first → IsFree g line k more → AreFree g line (suc k) (first ++ more)
-free_more g line k first more all here j low c at = elim (cases_eq j k) [
-  | inl q ↦ Contains-append_right first more (turn_word (size_of g) c, 0) (here c (ap (slice_get (column_list g line)) (sym q) ∙ at))
-  | inr n ↦ Contains-append_left first more (turn_word (size_of g) c, 0) (all j (omega (arith, low, n)) c at)
+free_more g line k first more all here j low = elim (cases_eq j k) [
+  | inl q ↦ subst (λ n. IsFree g line n (first ++ more)) (sym q) (free_in g line k more (first ++ more) (λ x h. Contains-append_right first more x h) here)
+  | inr n ↦ free_in g line j first (first ++ more) (λ x h. Contains-append_left first more x h) (all j (omega (arith, low, n)))
 ]
 
-pub took_more : (g : GraphValue) (line k : ℕ) (v : View) (cl : Claim) (left : List (ℕ × Content)) (n : Sat) (held : List (ℕ × ColumnValue)) (first : List (ℕ × ℕ)) (columns : Pairs) → AreFree g line k first
-    → (found : List (ℕ × ℕ)) × IsFree g line k found × TakingAs g line (suc k) (saw_all (saw_all v first) found) (record cl { columns = columns }) left n held → TookFree g line (suc k) v cl left n held
-took_more g line k v cl left n held first columns all f = (
-  first ++ f.0,
-  free_more g line k first f.0 all f.1,
-  (f.2.0, subst (λ u. Taking g line (suc k) u (record cl { columns = f.2.0 }) left n held) (saw_more v first f.0) f.2.1),
-)
+pub took_more : (g : GraphValue) (line k : ℕ) (v : View) (cl : Claim) (left : List (ℕ × Content)) (m n : Sat) (x y : Load) → TookFree g line k v cl left m x.held x.numbers → TakesAccess g line k m x n y → TookFree g line (suc k) v cl left n y.held y.numbers
+took_more g line k v cl left m n x y (first, all, l) takes =
+    let f = takes (saw_all v first) cl left l in (
+      first ++ f.0,
+      free_more g line k first f.0 all f.1,
+      subst (λ u. Taking g line (suc k) u cl left n y.held y.numbers) (saw_more v first f.0) f.2,
+    )
 
-module _ (g : GraphValue) (e : Events) (line k : ℕ) (v : View) (cl : Claim) (left : List (ℕ × Content)) (m : Sat) (held : List (ℕ × ColumnValue)) (l : Taking g line k v cl left m held) (c : ℕ) (at : slice_get (column_list g line) k ≡ Some c) where
-  pub may_take : AccessesColumn g line c → Has m.0 (λ d. (d.line ≡ line) × MayTake g c d)
-  may_take a = (
-    cl,
+module _ (g : GraphValue) (line k : ℕ) (v : View) (cl : Claim) (left : List (ℕ × Content)) (m : Sat) (x : Load) (l : Taking g line k v cl left m x.held x.numbers) (a : Access) (at : slice_get (accesses g line) k ≡ Some a)
+    (alone : (j : ℕ) → slice_get (column_list g line) j ≡ Some a.column → j ≡ k) where
+  column_at : slice_get (column_list g line) k ≡ Some a.column
+  column_at = get_map (λ (y : Access). y.column) (accesses g line) k ∙ ap (option_map (λ (y : Access). y.column)) at
+
+  not_taken : (t : Taken) → Contains l.taken t → taken_column t ≡ a.column → ⊥
+  not_taken t has q = let b = l.below t has in let same = alone b.0 (b.2 ∙ ap (λ (c : ℕ). Some c) q) in let less = b.1 in absurd (omega (arith, same, less))
+
+  none_of : (o : Option ColumnValue) → held_at x.held a.column ≡ o → held_at x.held a.column ≡ None
+  none_of None q = q
+  none_of (Some y) q = let h = l.only a.column y q in absurd (not_taken h.0 h.1 h.2)
+
+  pub not_held : held_at x.held a.column ≡ None
+  not_held = none_of (held_at x.held a.column) refl
+
+  pub may_gather : AccessesColumn g line a.column → Has m.0 (MayGather g line a.column)
+  may_gather accessed = (
+    with_taken cl l.taken [],
     ap (λ (y : Sat). y.0.claim) l.now,
-    (
-      l.line_is,
-      record {
-        going = l.going;
-        accessed = subst (λ j. AccessesColumn g j c) (sym l.line_is) a;
-        real = subst (λ j. Rattle.graph_meaning.specs.Evaluation.eval_end g j ≢ Rattle.graph_terms.specs.declared.outcome.End.TheVariants.Cancelled) (sym l.line_is) l.real;
-        new = ap (λ xs. is_listed xs c) l.no_puts;
-      },
-    ),
+    record {
+      line_is = l.line_is;
+      going = l.going;
+      accessed = subst (λ j. AccessesColumn g j a.column) (sym l.line_is) accessed;
+      real = subst (λ j. Rattle.graph_meaning.specs.Evaluation.eval_end g j ≢ Rattle.graph_terms.specs.declared.outcome.End.TheVariants.Cancelled) (sym l.line_is) l.real;
+      new = refl;
+      has_not = λ ks has. let t = column_taken l.taken a.column ks has in not_taken t.0 t.1 t.2;
+      none = λ s has q. let t = share_taken g (accesses g line) k l.taken l.stacked s has in not_taken t.0 t.1 (t.2 ∙ q);
+    },
   )
 
-  module _ (alone : (j : ℕ) → slice_get (column_list g line) j ≡ Some c → j ≡ k) where
-    pub not_had : (ks : List ℕ) → Contains cl.columns (c, ks) → ⊥
-    not_had ks has = let b = l.below c ks has in let q = alone b.0 b.2 in let less = b.1 in absurd (omega (arith, q, less))
+  -- one more taken
+  module _ (o : Sat) (y : Load) (t : Taken) (found : List (ℕ × ℕ)) (fits : FitsAccess g a t) (now : o ≡ (record (saw_all v found) { claim = Some (with_taken cl (t ∷ l.taken) []) }, hand_of (size_of g) (t ∷ l.taken) left))
+      (column : ColumnValue) (lending : Option ℕ) (gains : GainsOne a.column column lending x y) (holds : HoldsTaken g (home_cells g) y.held t)
+      (others : (i : ℕ) → i ≢ k → slice_index y.numbers i ≡ slice_index x.numbers i) (number : (s : TakenShare) → t ≡ Seen s → slice_index y.numbers k ≡ s.number) where
+    pub taken_more : Taking g line (suc k) (saw_all v found) cl left o y.held y.numbers
+    taken_more = record {
+      taken = t ∷ l.taken;
+      line_is = l.line_is;
+      going = l.going;
+      real = l.real;
+      no_puts = l.no_puts;
+      now = now;
+      stacked = inr (a, t, l.taken, at, refl, fits, l.stacked);
+      below = λ u has. ⊎_elim
+          (λ (q : t ≡ u). (k, omega arith, column_at ∙ ap (λ (c : ℕ). Some c) (sym (fits_column g a t fits) ∙ ap taken_column q)))
+          (λ (r : Contains l.taken u). let b = l.below u r in (b.0, (let less = b.1 in omega (arith, less)), b.2))
+          (contains_cases t l.taken u has);
+      apart = (λ u has q. not_taken u has (q ∙ fits_column g a t fits), l.apart);
+      has = λ u has. ⊎_elim
+          (λ (q : t ≡ u). subst (HoldsTaken g (home_cells g) y.held) q holds)
+          (λ (r : Contains l.taken u). holds_on g (home_cells g) x.held y.held a.column (Some column) gains.otherwise u (not_taken u r) (l.has u r))
+          (contains_cases t l.taken u has);
+      only = λ d z got. elim (cases_eq d a.column) [
+        | inl q ↦ (t, contains_here t l.taken, fits_column g a t fits ∙ sym q)
+        | inr ne ↦ (let u = l.only d z (sym (gains.otherwise.others d ne) ∙ got) in (u.0, contains_there t l.taken u.0 u.1, u.2))
+      ];
+      numbered = λ i b s b_at has q. ⊎_elim
+          (λ (e : t ≡ Seen s).
+          let same = alone i (get_map (λ (z : Access). z.column) (accesses g line) i ∙ (ap (option_map (λ (z : Access). z.column)) b_at ∙ ap (λ (c : ℕ). Some c) (sym q ∙ (sym (ap taken_column e) ∙ fits_column g a t fits)))) in
+          ap (slice_index y.numbers) same ∙ number s e)
+          (λ (r : Contains l.taken (Seen s)).
+          others i (λ e. not_taken (Seen s) r (q ∙ ap (λ (z : Access). z.column) (same_Some b a (sym b_at ∙ (ap (slice_get (accesses g line)) e ∙ at))))) ∙ l.numbered i b s b_at r q)
+          (contains_cases t l.taken (Seen s) has);
+      size = gains.long ∙ omega (arith, l.size);
+    }
 
-    none_of : (o : Option ColumnValue) → held_at held c ≡ o → held_at held c ≡ None
-    none_of None q = q
-    none_of (Some x) q = let h = l.only c x q in absurd (not_had h.0 h.1)
+  -- the whole column, where the access may change it
+  pub takes_whole : (n : Sat) (y : Load) → is_read a.mode ≡ false → TakesWhole g a.column m x n y → (found : List (ℕ × ℕ)) × IsFree g line k found × Taking g line (suc k) (saw_all v found) cl left n y.held y.numbers
+  takes_whole n y own (found, ss, back, first, free, now, gains, numbers) = (
+    found,
+    (λ b is. subst (λ (z : Access). cond (is_read z.mode) ((j : ℕ) × (0 < j) × (j < share_count g z.column) × Contains found (share_word (size_of g) z.column j, 0)) ((w : ℕ) → IsWordOf g z.column w → Contains found (w, 0)))
+        (same_Some a b (sym at ∙ is)) (subst (λ c. cond c ((j : ℕ) × (0 < j) × (j < share_count g a.column) × Contains found (share_word (size_of g) a.column j, 0)) ((w : ℕ) → IsWordOf g a.column w → Contains found (w, 0))) (sym own) free)),
+    taken_more n y (Whole a.column back ss) found (refl, own, first)
+        (now ∙ ap (λ (z : Sat). (Rattle.run_words.specs.Plays.on_claim (Rattle.run_words.specs.Plays.took a.column back) (Rattle.run_words.specs.Plays.on_claim (Rattle.run_words.specs.Gathering.with_shares ss) (saw_all z.0 found)), (Rattle.run_words.specs.Layout.column_slot (size_of g) a.column, Rattle.run_words.specs.declared.content.Content.TheVariants.Nothing) ∷ Rattle.run_words.specs.Laden.slots_of (size_of g) ss z.1)) l.now)
+        (column_with g a.column (home_cells g back a.column)) None gains (gains.otherwise.here, gains.lending_is) (λ i ne. ap (λ (zs : List ℕ). slice_index zs i) numbers) (λ s e. absurd (not_seen a.column back ss s e)),
+  )
 
-    pub not_held : held_at held c ≡ None
-    not_held = none_of (held_at held c) refl
+  -- a share, where it only reads
+  pub takes_some : (n : Sat) (y : Load) → is_read a.mode ≡ true → TakesSome g k a.column m x n y → (found : List (ℕ × ℕ)) × IsFree g line k found × Taking g line (suc k) (saw_all v found) cl left n y.held y.numbers
+  takes_some n y reads (found, s, in_it, up, few, free, now, gains, notes, back, shows) = (
+    found,
+    (λ b is. subst (λ (z : Access). cond (is_read z.mode) ((j : ℕ) × (0 < j) × (j < share_count g z.column) × Contains found (share_word (size_of g) z.column j, 0)) ((w : ℕ) → IsWordOf g z.column w → Contains found (w, 0)))
+        (same_Some a b (sym at ∙ is)) (subst (λ c. cond c ((j : ℕ) × (0 < j) × (j < share_count g a.column) × Contains found (share_word (size_of g) a.column j, 0)) ((w : ℕ) → IsWordOf g a.column w → Contains found (w, 0))) (sym reads) (s.number, up, few, free))),
+    taken_more n y (Seen s) found (sym in_it, reads, up, subst (λ c. s.number < share_count g c) (sym in_it) few, back, subst (λ c. s.cells ≡ home_cells g back c) (sym in_it) shows)
+        (now ∙ ap (λ (z : Sat). Rattle.run_words.specs.Gathering.stacked g (s ∷ []) (after found z)) l.now)
+        (column_with g a.column s.cells) (Some s.lending) gains
+        (subst (λ c. (held_at y.held c ≡ Some (column_with g c s.cells)) × (lending_at y.held c ≡ Some s.lending)) (sym in_it) (gains.otherwise.here, gains.lending_is))
+        notes.others (λ u e. notes.here ∙ ap (λ (z : TakenShare). z.number) (seen_one s u e)),
+  )
 
-    module _ (n : Sat) (key : m.0.keys ≡ ground_of g e ∷ []) (h : HasTurn (turn_word (size_of g) c) m n) where
-      abbrev then : Claim
-      then = took c h.back cl
+  -- or what it names was found with another line
+  pub finds_whole : (n : Sat) (y : Load) → is_read a.mode ≡ false → FindsWhole g line a.column m x n y → (found : List (ℕ × ℕ)) × (b : Access) × (slice_get (accesses g line) k ≡ Some b) × IsAway g line b found × Taking g line k (saw_all v found) cl left n y.held y.numbers
+  finds_whole n y own (found, w, is_word, other, now, same) = (
+    found,
+    a,
+    at,
+    subst (λ c. cond c ((j : ℕ) → 0 < j → j < share_count g a.column → FoundOther line (share_word (size_of g) a.column j) found) ((u : ℕ) × IsWordOf g a.column u × FoundOther line u found)) (sym own) (w, is_word, other),
+    subst (λ (z : Load). Taking g line k (saw_all v found) cl left n z.held z.numbers) (sym same) (taking_found g line k v cl left m n x.held x.numbers found l now),
+  )
 
-      abbrev column : ColumnValue
-      column = column_with g c (home_cells g h.back c)
-
-      pub now : n ≡ (on_claim (took c h.back) (saw_at m.0 (turn_word (size_of g) c) 0), (column_slot (size_of g) c, Cells column) ∷ m.1)
-      now = h.now (ground_of g e) c (has_key m.0.keys (ground_of g e) key) refl
-
-      pub keys : n.0.keys ≡ ground_of g e ∷ []
-      keys = ap (λ (y : Sat). y.0.keys) now ∙ key
-
-      pub on_top : (s : ℕ) → s ≡ column_slot (size_of g) c → n.1 ≡ (s, Cells column) ∷ m.1
-      on_top s q = ap (λ (y : Sat). y.1) now ∙ ap (λ (j : ℕ). (j, Cells column) ∷ m.1) (sym q)
-
-      pub taken : (o : Sat) (held' : List (ℕ × ColumnValue)) (x : ColumnValue) → Cells column ≡ Cells x → o.0 ≡ n.0 → o.1 ≡ (column_slot (size_of g) c, Nothing) ∷ m.1 → HoldsOtherwise held held' c (Some x) → length held' ≡ length held + 1 → Taking g line (suc k) (saw_at v (turn_word (size_of g) c) 0) then left o held'
-      taken o held' x is view hand others long = record {
-        line_is = l.line_is;
-        going = l.going;
-        real = l.real;
-        no_puts = l.no_puts;
-        now = λ t. (
-          (view ∙ (ap (λ (y : Sat). y.0) now ∙ ap (λ (y : Sat). on_claim (took c h.back) (saw_at y.0 (turn_word (size_of g) c) 0)) l.now)) t,
-          (hand ∙ ap (λ (y : Sat). (column_slot (size_of g) c, Nothing) ∷ y.1) l.now) t,
-        );
-        stacked = inr (c, h.back, cl.columns, at, refl, l.stacked);
-        below = λ d ks has. ⊎_elim
-            (λ (q : (c, h.back) ≡ (d, ks)). (k, omega arith, at ∙ ap (λ (y : ℕ × List ℕ). Some y.0) q))
-            (λ (r : Contains {X = ℕ × List ℕ} cl.columns (d, ks)). let b = l.below d ks r in (b.0, (let less = b.1 in omega (arith, less)), b.2))
-            (contains_cases {X = ℕ × List ℕ} (c, h.back) cl.columns (d, ks) has);
-        apart = (not_had, l.apart);
-        has = λ d ks has. ⊎_elim
-            (λ (q : (c, h.back) ≡ (d, ks)). subst (λ (y : ℕ × List ℕ). held_at held' y.0 ≡ Some (column_with g y.0 (home_cells g y.1 y.0))) q (others.here ∙ ap Some (sym (ap (column_in column) is))))
-            (λ (r : Contains {X = ℕ × List ℕ} cl.columns (d, ks)). others.others d (λ q. not_had ks (subst (λ j. Contains {X = ℕ × List ℕ} cl.columns (j, ks)) q r)) ∙ l.has d ks r)
-            (contains_cases {X = ℕ × List ℕ} (c, h.back) cl.columns (d, ks) has);
-        only = λ d y got. elim (cases_eq d c) [
-          | inl q ↦ (h.back, subst (λ j. Contains {X = ℕ × List ℕ} ((c, h.back) ∷ cl.columns) (j, h.back)) (sym q) (contains_here {X = ℕ × List ℕ} (c, h.back) cl.columns))
-          | inr ne ↦ (let o' = l.only d y (sym (others.others d ne) ∙ got) in (o'.0, contains_there {X = ℕ × List ℕ} (c, h.back) cl.columns (d, o'.0) o'.1))
-        ];
-        size = long ∙ omega (arith, l.size);
-      }
+  pub finds_seen : (n : Sat) (y : Load) → is_read a.mode ≡ true → FindsSeen g line a.column m x n y → (found : List (ℕ × ℕ)) × (b : Access) × (slice_get (accesses g line) k ≡ Some b) × IsAway g line b found × Taking g line k (saw_all v found) cl left n y.held y.numbers
+  finds_seen n y reads (found, other, now, same) = (
+    found,
+    a,
+    at,
+    subst (λ c. cond c ((j : ℕ) → 0 < j → j < share_count g a.column → FoundOther line (share_word (size_of g) a.column j) found) ((u : ℕ) × IsWordOf g a.column u × FoundOther line u found)) (sym reads) other,
+    subst (λ (z : Load). Taking g line k (saw_all v found) cl left n z.held z.numbers) (sym same) (taking_found g line k v cl left m n x.held x.numbers found l now),
+  )

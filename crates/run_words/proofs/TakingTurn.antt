@@ -6,7 +6,7 @@ use Rattle.shared_events.specs.declared.events.Events.{Events}
 use Rattle.basics.proofs.ListFacts.{contains_here}
 use Rattle.graph_terms.specs.Graph.{GraphValue}
 use Rattle.run_words.specs.declared.content.Content.{Content}
-use Rattle.run_words.specs.declared.content.Content.TheVariants.{Nothing, PendingEvent, EventReceipt, Cells, Issuer}
+use Rattle.run_words.specs.declared.content.Content.TheVariants.{Nothing, PendingEvent, EventReceipt, Cells, Lent, Share, Issuer}
 use Rattle.run_words.specs.declared.content.IssueState.{IssueState}
 use Rattle.run_words.specs.declared.view.View.{View}
 use Rattle.shared_events.specs.declared.tokens.Pending.{Pending}
@@ -26,6 +26,8 @@ issue_state_in d Nothing = d
 issue_state_in d (PendingEvent x) = d
 issue_state_in d (EventReceipt x) = d
 issue_state_in d (Cells x) = d
+issue_state_in d (Lent x) = d
+issue_state_in d (Share x) = d
 
 pub issue_state_one : (d d' : IssueState) → Issuer d ≡ Issuer d' → d ≡ d'
 issue_state_one d d' q = ap (issue_state_in d) q
@@ -81,6 +83,8 @@ pending_in p Nothing = p
 pending_in p (Issuer x) = p
 pending_in p (EventReceipt x) = p
 pending_in p (Cells x) = p
+pending_in p (Lent x) = p
+pending_in p (Share x) = p
 
 pub pending_one : (p q : Pending) → PendingEvent p ≡ PendingEvent q → p ≡ q
 pending_one p q e = ap (pending_in p) e

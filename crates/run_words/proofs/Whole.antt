@@ -69,7 +69,7 @@ sum_alone f (x ∷ xs) zero v me z = omega (arith, all_zero f xs (λ j u at. z (
 sum_alone f (x ∷ xs) (suc id) v me z = omega (arith, z 0 x (λ q. absurd (omega (arith, q))) refl, sum_alone f xs id v me (λ j u n at. z (suc j) u (λ q. n (omega (arith, q))) at))
 
 -- a line whose work nobody has is ended where it has started
-idle_out : (s : LineStage) → busy s ≡ 0 → stage_out s ≡ true → ⊥
+pub idle_out : (s : LineStage) → busy s ≡ 0 → stage_out s ≡ true → ⊥
 idle_out Unissued b h = true≢false (sym h)
 idle_out Issued b h = true≢false (sym h)
 idle_out Out b h = absurd (omega (arith, b))

@@ -1,5 +1,5 @@
 -- What each step tells: of the step, the seat before, the number found and the seat after. How views are cut and joined.
-use Rattle.std.specs.Prelude.{◌≡◌, ◌≢◌, ℕ, zero, suc, ◌+◌, ◌-◌, ◌<◌, ◌≤◌, nat_lt, cond, Bool, true, false, List, [], ◌∷◌, ◌++◌, length, Contains, IsTrue, Option, Some, None, option_map, slice_get}
+use Rattle.std.specs.Prelude.{◌≡◌, ◌≢◌, ℕ, zero, suc, ◌+◌, ◌-◌, ◌<◌, ◌≤◌, ◌==◌, nat_lt, cond, Bool, true, false, List, [], ◌∷◌, ◌++◌, length, Contains, IsTrue, Option, Some, None, option_map, slice_get}
 use Rattle.atomic_table.specs.Table.{Me, rest}
 use Rattle.basics.specs.Lists.{numbers_below}
 use Rattle.graph_terms.specs.declared.limits.TheConstants.{MAX_LINES_OF_THREE}
@@ -11,18 +11,22 @@ use Rattle.shared_events.specs.Views.{IsPendingOf, handle_of}
 use Rattle.event_table.specs.declared.handle.Handle.{Handle}
 use Rattle.shared_events.specs.declared.tokens.Pending.{Pending}
 use Rattle.run_state.specs.Run.{is_listed}
-use Rattle.run_state.specs.Sound.{AccessesColumn, home_cells}
+use Rattle.run_state.specs.Sound.{OnlyReads, home_cells}
+use Rattle.run_state.specs.Sharing.{ChangesColumn}
 use Rattle.run_state.specs.Work.{performed, put_cells, PerformsAsEvaluated}
 use Rattle.graph_meaning.specs.Effect.{Cells as AllCells}
-use Rattle.graph_terms.specs.Graph.{GraphValue, column_space}
+use Rattle.graph_terms.specs.Fits.{IsGraph}
+use Rattle.graph_terms.specs.Graph.{GraphValue, columns, column_space}
 use Rattle.index_spaces.specs.Space.{has_point}
+use Rattle.index_spaces.specs.Column.{cell_of}
 use Rattle.run_words.specs.declared.content.Content.{Content}
 use Rattle.run_words.specs.declared.content.IssueState.{IssueState}
-use Rattle.run_words.specs.declared.content.Content.TheVariants.{Nothing, PendingEvent, EventReceipt, Cells, Issuer}
+use Rattle.run_words.specs.declared.content.Content.TheVariants.{Nothing, PendingEvent, EventReceipt, Cells, Lent, Share, Issuer}
 use Rattle.run_words.specs.declared.view.View.{View}
-use Rattle.run_words.specs.Claims.{Ground, Claim, new_claim}
-use Rattle.run_words.specs.Layout.{size_of, turn_word, alone_code, column_slot, issue_turn_slot}
-use Rattle.run_words.specs.Rule.{column_with, IsIssueState, child}
+use Rattle.run_words.specs.Claims.{Ground, Claim, TakenShare, new_claim}
+use Rattle.share_words.specs.Shares.{share_count}
+use Rattle.run_words.specs.Layout.{size_of, turn_word, share_word, alone_code, column_slot, share_slot, issue_turn_slot}
+use Rattle.run_words.specs.Rule.{column_with, home_content, share_value, IsIssueState, child}
 
 -- what a seat has: its view, and the slots in its hand with what they hold
 abbrev pub Sat : Type 0
@@ -47,14 +51,22 @@ ended_by i r = cond (nat_lt r 8) [] ((i, end_of_code (r - 8)) ∷ [])
 abbrev pub looked_at : View → ℕ → ℕ → View
 looked_at v i r = record v { issued = v.issued ++ issued_by i r; ended = v.ended ++ ended_by i r; saw = v.saw ++ (i, r) ∷ [] }
 
--- the cells of these columns are as the lines put back on them left them
-abbrev pub Agrees : GraphValue → List (ℕ × List ℕ) → AllCells → Type 0
-Agrees g columns cells = (c : ℕ) (ks : List ℕ) → Contains columns (c, ks) → (p : ℕ) → IsTrue (has_point (column_space g c) p) → cells c p ≡ cells_of_lines g (is_listed ks) c p
+-- the cells of these columns are as the lines put back on them left them, and those that are seen by shares alone are the ones that these show
+pub record Agrees (g : GraphValue) (columns : List (ℕ × List ℕ)) (shares : List TakenShare) (cells : AllCells) : Type 0 where
+  pub has : (c : ℕ) (ks : List ℕ) → Contains columns (c, ks) → (p : ℕ) → IsTrue (has_point (column_space g c) p) → cells c p ≡ cells_of_lines g (is_listed ks) c p
+  pub sees : (s : TakenShare) → Contains shares s → ((ks : List ℕ) → Contains columns (s.column, ks) → ⊥) → (p : ℕ) → IsTrue (has_point (column_space g s.column) p) → cells s.column p ≡ cell_of (column_with g s.column s.cells) p
 
--- a line that finds its columns so ends as in the evaluation, and leaves on each what it leaves there
-pub record IsReady (g : GraphValue) (i : ℕ) (columns : List (ℕ × List ℕ)) : Type 0 where
-  pub performs : (cells : AllCells) → Agrees g columns cells → PerformsAsEvaluated g i cells
-  pub leaves : (cells : AllCells) → Agrees g columns cells → (c : ℕ) (ks : List ℕ) → Contains columns (c, ks) → (column_of g (performed g i cells) c).cells ≡ put_cells g i ks c
+-- a line that finds its columns so ends as in the evaluation, leaves those that it only reads as they are, and on each other what it leaves there
+pub record IsReady (g : GraphValue) (i : ℕ) (columns : List (ℕ × List ℕ)) (shares : List TakenShare) : Type 0 where
+  pub graph : IsGraph g
+  pub performs : (cells : AllCells) → Agrees g columns shares cells → PerformsAsEvaluated g i cells
+  pub keeps : (cells : AllCells) → Agrees g columns shares cells → (s : TakenShare) → Contains shares s → ((ks : List ℕ) → Contains columns (s.column, ks) → ⊥) → OnlyReads g i s.column → (column_of g (performed g i cells) s.column).cells ≡ s.cells
+  pub leaves : (cells : AllCells) → Agrees g columns shares cells → (c : ℕ) (ks : List ℕ) → Contains columns (c, ks) → (column_of g (performed g i cells) c).cells ≡ put_cells g i ks c
+
+-- a line has the columns that it may change, and shares of those that it only reads
+pub record HasAllColumns (g : GraphValue) (i : ℕ) (columns : List (ℕ × List ℕ)) (shares : List TakenShare) : Type 0 where
+  pub has : (k : ℕ) → ChangesColumn g i k → (ks : List ℕ) × Contains columns (k, ks)
+  pub sees : (k : ℕ) → OnlyReads g i k → (s : TakenShare) × Contains shares s × (s.column ≡ k)
 
 -- what a seat is told by the word r of line i
 pub record Told (v : View) (i r : ℕ) : Type 0 where
@@ -64,8 +76,8 @@ pub record Told (v : View) (i r : ℕ) : Type 0 where
   -- a line on a path to the line whose work the seat has is ended
   pub before : (x : Ground) (c : Claim) → Contains v.keys x → v.claim ≡ Some c → HasPath x.graph i c.line → 8 ≤ r
   -- the line whose work the seat has is ready where it has its columns
-  pub ready : (x : Ground) (c : Claim) → Contains v.keys x → v.claim ≡ Some c → c.ends ≡ None → eval_end x.graph c.line ≢ Cancelled →
-      ((k : ℕ) → AccessesColumn x.graph c.line k → (ks : List ℕ) × Contains c.columns (k, ks)) → IsReady x.graph c.line c.columns
+  pub ready : (x : Ground) (c : Claim) → Contains v.keys x → v.claim ≡ Some c → c.ends ≡ None → c.puts ≡ [] → eval_end x.graph c.line ≢ Cancelled →
+      HasAllColumns x.graph c.line c.columns c.shares → IsReady x.graph c.line c.columns c.shares
 
 -- the seat loaded the word of line i, and found r
 abbrev pub looked : ℕ → Sat → ℕ → Sat → Type 0
@@ -109,19 +121,52 @@ claims i m r n = (r ≡ 2 → HasClaimed i m n) × ((r ≡ 2 → ⊥) → looked
 abbrev pub took : ℕ → List ℕ → Claim → Claim
 took c ks cl = record cl { columns = (c, ks) ∷ cl.columns }
 
--- the column of the word w was found free and taken, and is in the hand, as the lines before left it
+-- the column of the word w was found free and taken, and what lay there is in the hand, as the lines before left the column
 pub record HasTurn (w : ℕ) (m n : Sat) : Type 0 where
   pub back : List ℕ
+  pub lending : ℕ
   pub now : (x : Ground) (c : ℕ) → Contains m.0.keys x → w ≡ turn_word (size_of x.graph) c →
-      n ≡ (on_claim (took c back) (saw_at m.0 w 0), (column_slot (size_of x.graph) c, Cells (column_with x.graph c (home_cells x.graph back c))) ∷ m.1)
+      n ≡ (on_claim (took c back) (saw_at m.0 w 0), (column_slot (size_of x.graph) c, home_content x.graph c lending (home_cells x.graph back c)) ∷ m.1)
+  -- the shares that the seat has of it are of this lending
+  pub same : (x : Ground) (c : ℕ) (cl : Claim) (s : TakenShare) → Contains m.0.keys x → w ≡ turn_word (size_of x.graph) c → m.0.claim ≡ Some cl → Contains cl.shares s → s.column ≡ c →
+      (s.lending ≡ lending) × (s.cells ≡ home_cells x.graph back c)
 
 -- the word w, which held r, shows another line than the seat's, where that has not the column
 abbrev pub NotOwn : ℕ → View → ℕ → Type 0
 NotOwn w v r = (x : Ground) (c : ℕ) (cl : Claim) → Contains v.keys x → w ≡ turn_word (size_of x.graph) c → v.claim ≡ Some cl → ((ks : List ℕ) → Contains cl.columns (c, ks) → ⊥) → r ≡ cl.line + 1 → ⊥
 
+-- the word of a column that has shares is found free by who has them
+abbrev pub FreeByShares : ℕ → View → ℕ → Type 0
+FreeByShares w v r = (x : Ground) (c : ℕ) (cl : Claim) (s : TakenShare) → Contains v.keys x → w ≡ turn_word (size_of x.graph) c → v.claim ≡ Some cl → ((ks : List ℕ) → Contains cl.columns (c, ks) → ⊥) → Contains cl.shares s → s.column ≡ c → r ≡ 0
+
 -- the word w held r: where that is 0 the column was taken, else another line has it
 abbrev pub turns : ℕ → Sat → ℕ → Sat → Type 0
-turns w m r n = (r ≡ 0 → HasTurn w m n) × ((r ≡ 0 → ⊥) → missed w m r n × NotOwn w m.0 r)
+turns w m r n = (r ≡ 0 → HasTurn w m n) × ((r ≡ 0 → ⊥) → missed w m r n × NotOwn w m.0 r) × FreeByShares w m.0 r
+
+-- SHARES. The claim has this share too
+abbrev pub took_share : TakenShare → Claim → Claim
+took_share s cl = record cl { shares = s ∷ cl.shares }
+
+-- the share of the word w was found free and taken, and is in the hand; it shows the cells that the lines before left
+pub record GotShare (w : ℕ) (m n : Sat) : Type 0 where
+  pub back : List ℕ
+  pub cells : List ℕ
+  pub lending : ℕ
+  pub now : (x : Ground) (c j : ℕ) → Contains m.0.keys x → c < length (columns x.graph) → j < share_count x.graph c → w ≡ share_word (size_of x.graph) c j →
+      n ≡ (on_claim (took_share (record { column = c; number = j; cells = cells; lending = lending })) (saw_at m.0 w 0), (share_slot (size_of x.graph) c j, Share (share_value x.graph c j lending cells)) ∷ m.1)
+  pub shows : (x : Ground) (c j : ℕ) → Contains m.0.keys x → c < length (columns x.graph) → j < share_count x.graph c → w ≡ share_word (size_of x.graph) c j → cells ≡ home_cells x.graph back c
+  -- as do those of this column that the seat has, which are of one lending with it
+  pub same : (x : Ground) (c j : ℕ) (cl : Claim) (s : TakenShare) → Contains m.0.keys x → c < length (columns x.graph) → j < share_count x.graph c → w ≡ share_word (size_of x.graph) c j → m.0.claim ≡ Some cl → Contains cl.shares s → s.column ≡ c →
+      (s.lending ≡ lending) × (s.cells ≡ cells)
+
+-- the word w, which held r, shows another line than the seat's, where that has not the share
+abbrev pub NotOwnShare : ℕ → View → ℕ → Type 0
+NotOwnShare w v r = (x : Ground) (c j : ℕ) (cl : Claim) → Contains v.keys x → c < length (columns x.graph) → j < share_count x.graph c → w ≡ share_word (size_of x.graph) c j → v.claim ≡ Some cl →
+    ((s : TakenShare) → Contains cl.shares s → s.column ≡ c → s.number ≡ j → ⊥) → r ≡ cl.line + 1 → ⊥
+
+-- the word w held r: where that is 0 the share was taken, else another line has it
+abbrev pub takes_share : ℕ → Sat → ℕ → Sat → Type 0
+takes_share w m r n = (r ≡ 0 → GotShare w m n) × ((r ≡ 0 → ⊥) → missed w m r n × NotOwnShare w m.0 r)
 
 -- a list without its first item
 abbrev pub but_first : {X : Type 0} → List X → List X
@@ -133,21 +178,73 @@ abbrev pub first_column : List (ℕ × List ℕ) → List ℕ
 first_column [] = []
 first_column (x ∷ xs) = x.0 ∷ []
 
+-- shares, those of column c as they are in the next lending of it, in which it has these cells
+abbrev pub lent_anew : ℕ → ℕ → List ℕ → List TakenShare → List TakenShare
+lent_anew c d xs [] = []
+lent_anew c d xs (s ∷ ss) = cond (s.column == c) (record s { cells = xs; lending = d }) s ∷ lent_anew c d xs ss
+
+-- the lending and the cells of the column on top of the hand
+abbrev pub top_lending : List (ℕ × Content) → ℕ
+top_lending [] = 0
+top_lending ((k, Lent l) ∷ xs) = l.lending
+top_lending ((k, Nothing) ∷ xs) = 0
+top_lending ((k, PendingEvent p) ∷ xs) = 0
+top_lending ((k, EventReceipt p) ∷ xs) = 0
+top_lending ((k, Cells x) ∷ xs) = 0
+top_lending ((k, Share x) ∷ xs) = 0
+top_lending ((k, Issuer d) ∷ xs) = 0
+
+abbrev pub top_cells : List (ℕ × Content) → List ℕ
+top_cells [] = []
+top_cells ((k, Lent l) ∷ xs) = l.column.cells
+top_cells ((k, Cells x) ∷ xs) = x.cells
+top_cells ((k, Nothing) ∷ xs) = []
+top_cells ((k, PendingEvent p) ∷ xs) = []
+top_cells ((k, EventReceipt p) ∷ xs) = []
+top_cells ((k, Share x) ∷ xs) = []
+top_cells ((k, Issuer d) ∷ xs) = []
+
+-- the column of the first share, if there is one
+abbrev pub first_shared : List TakenShare → List ℕ
+first_shared [] = []
+first_shared (s ∷ ss) = s.column ∷ []
+
+-- the shares of the column that was taken last, which goes home with these cells in this lending
+abbrev pub shares_anew : List (ℕ × List ℕ) → ℕ → List ℕ → List TakenShare → List TakenShare
+shares_anew [] d xs ss = ss
+shares_anew (x ∷ columns) d xs ss = lent_anew x.0 d xs ss
+
 -- the column that was taken last goes home unused
-abbrev pub unused : Claim → Claim
-unused cl = record cl { columns = but_first cl.columns }
+abbrev pub unused : ℕ → List ℕ → Claim → Claim
+unused d xs cl = record cl { columns = but_first cl.columns; shares = shares_anew cl.columns d xs cl.shares }
 
 -- or it goes home with the line put back on it
-abbrev pub put_on : Claim → Claim
-put_on cl = record cl { columns = but_first cl.columns; puts = first_column cl.columns ++ cl.puts }
+abbrev pub put_on : ℕ → List ℕ → Claim → Claim
+put_on d xs cl = record cl { columns = but_first cl.columns; puts = first_column cl.columns ++ cl.puts; shares = shares_anew cl.columns d xs cl.shares }
 
 -- the seat gave the column that it took last back, and its slot
 abbrev pub returns_unused : Sat → Sat → Type 0
-returns_unused m n = n ≡ (on_claim unused m.0, rest m.1)
+returns_unused m n = n ≡ (on_claim (unused (top_lending m.1) (top_cells m.1)) m.0, rest m.1)
 
 -- the seat put its line back on the column that it took last, and gave its slot back
 abbrev pub puts_back : Sat → Sat → Type 0
-puts_back m n = n ≡ (on_claim put_on m.0, rest m.1)
+puts_back m n = n ≡ (on_claim (put_on (top_lending m.1) (top_cells m.1)) m.0, rest m.1)
+
+-- the share that was taken last goes home
+abbrev pub without_share : Claim → Claim
+without_share cl = record cl { shares = but_first cl.shares }
+
+-- or it goes home with the line put back on its column
+abbrev pub read_on : Claim → Claim
+read_on cl = record cl { shares = but_first cl.shares; puts = first_shared cl.shares ++ cl.puts }
+
+-- the seat gave the share that it took last back, and its slot
+abbrev pub gives_share : Sat → Sat → Type 0
+gives_share m n = n ≡ (on_claim without_share m.0, rest m.1)
+
+-- the seat put its line back on the column of the share that it took last, and gave the share and its slot back
+abbrev pub reads_back : Sat → Sat → Type 0
+reads_back m n = n ≡ (on_claim read_on m.0, rest m.1)
 
 -- the claim has its reservation, or has it not
 abbrev pub holding : Bool → Claim → Claim
@@ -277,6 +374,8 @@ issue_states_in ((k, Nothing) ∷ xs) = []
 issue_states_in ((k, PendingEvent p) ∷ xs) = []
 issue_states_in ((k, EventReceipt r) ∷ xs) = []
 issue_states_in ((k, Cells x) ∷ xs) = []
+issue_states_in ((k, Lent x) ∷ xs) = []
+issue_states_in ((k, Share x) ∷ xs) = []
 
 -- the seat has no turn, knows the handles of the lines, and laid this in the issue state
 abbrev pub without_issue_turn : View → List IssueState → View
@@ -301,6 +400,8 @@ handles_in ((k, PendingEvent p) ∷ xs) = handle_of p ∷ []
 handles_in ((k, Nothing) ∷ xs) = []
 handles_in ((k, EventReceipt r) ∷ xs) = []
 handles_in ((k, Cells x) ∷ xs) = []
+handles_in ((k, Lent x) ∷ xs) = []
+handles_in ((k, Share x) ∷ xs) = []
 handles_in ((k, Issuer d) ∷ xs) = []
 
 -- line i is known issued, and the list of handles has the new one at its end

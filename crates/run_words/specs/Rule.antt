@@ -9,7 +9,7 @@ use Rattle.atomic_table.specs.Table.{State}
 use Rattle.index_spaces.specs.Column.{ColumnValue}
 use Rattle.graph_terms.specs.declared.outcome.End.{End}
 use Rattle.graph_terms.specs.declared.outcome.End.TheVariants.{Done, Faulted, Cancelled, Waiting}
-use Rattle.graph_terms.specs.Graph.{GraphValue, column_space, line_passes, is_shared}
+use Rattle.graph_terms.specs.Graph.{GraphValue, columns, column_space, line_passes, is_shared}
 use Rattle.graph_terms.specs.Reservations.{Acquires}
 use Rattle.basics.specs.Sums.{total, only}
 use Rattle.shared_events.specs.Seats.{HasSeen, no_event, Begins}
@@ -21,14 +21,17 @@ use Rattle.shared_events.specs.declared.tokens.Pending.{Pending}
 use Rattle.shared_events.specs.declared.tokens.Receipt.{Receipt}
 use Rattle.shared_events.specs.declared.tokens.Waiter.{Waiter}
 use Rattle.shared_events.specs.declared.events.Events.{Events}
-use Rattle.run_state.specs.Run.{LineStage, Unissued, Issued, Out, Ending, Ended, Place, Home, Had, Run, is_listed, stage_at, time_at, place_at, list_at, issued, ended}
+use Rattle.run_state.specs.Run.{LineStage, Unissued, Issued, Out, Ending, Ended, Place, Home, Had, Run, is_listed, stage_at, time_at, place_at, list_at, issued, out, ended}
 use Rattle.run_state.specs.Sound.{Sound}
 use Rattle.run_words.specs.declared.content.IssueState.{IssueState}
 use Rattle.run_words.specs.declared.content.Content.{Content}
-use Rattle.run_words.specs.declared.content.Content.TheVariants.{Nothing, PendingEvent, EventReceipt, Cells, Issuer}
+use Rattle.run_words.specs.declared.content.Content.TheVariants.{Nothing, PendingEvent, EventReceipt, Share, Issuer}
 use Rattle.run_words.specs.declared.view.View.{View}
-use Rattle.run_words.specs.Claims.{Ground, Claim}
-use Rattle.run_words.specs.Layout.{Size, size_of, alone_code, status_word, time_word, value_word, turn_word, lock_word, clock_word, issue_turn_word, word_count, line_slot, column_slot, issue_turn_slot, slot_count}
+use Rattle.run_words.specs.Claims.{Ground, Claim, TakenShare}
+use Rattle.run_words.specs.Lending.{home_for, count_for}
+use Rattle.share_words.specs.Shares.{share_count}
+use Rattle.index_spaces.specs.Shares.{ShareValue}
+use Rattle.run_words.specs.Layout.{Size, size_of, alone_code, status_word, time_word, value_word, turn_word, share_word, lock_word, clock_word, issue_turn_word, word_count, line_slot, column_slot, share_slot, issue_turn_slot, slot_count}
 use Rattle.run_words.specs.Views.{time_code, runs_at, issues_at, owes_at, has_issue_turn, busy, working}
 
 -- the graph of a run with the events of its lines
@@ -87,16 +90,44 @@ handle_at handles i = slice_index_or handles i no_event
 abbrev pub column_with : GraphValue → ℕ → List ℕ → ColumnValue
 column_with g c xs = record { space = column_space g c; cells = xs }
 
+-- LOANS. What is lent of each column: the number of its lending, and who has each share, as one more than the number of the line, or 0
+pub record Loans : Type 0 where
+  pub lending : ℕ → ℕ
+  pub holder : ℕ → ℕ → ℕ
+
+-- what the slot of a column with these cells has at home: the column, or where it has shares the right to have it back
+abbrev pub home_content : GraphValue → ℕ → ℕ → List ℕ → Content
+home_content g c d xs = home_for (share_count g c) d (column_with g c xs)
+
+-- how many shares of a lending lie in share j
+abbrev pub count_of : GraphValue → ℕ → ℕ → ℕ
+count_of g c j = count_for (share_count g c) j
+
+-- share j of column c, of lending d, where it has these cells
+abbrev pub share_value : GraphValue → ℕ → ℕ → ℕ → List ℕ → ShareValue
+share_value g c j d xs = record { column = column_with g c xs; lending = d; count = count_of g c j }
+
 -- the word and the slot of a column at this place
-abbrev pub ColumnShown : GraphValue → ℕ → Place → ℕ → mathlib.Core.Option.Option Content → Type 0
-ColumnShown g c (Home xs) w home = (w ≡ 0) × (home ≡ some (Cells (column_with g c xs)))
-ColumnShown g c (Had i) w home = (w ≡ i + 1) × (home ≡ none)
+abbrev pub ColumnShown : GraphValue → ℕ → ℕ → Place → ℕ → mathlib.Core.Option.Option Content → Type 0
+ColumnShown g c d (Home xs) w home = (w ≡ 0) × (home ≡ some (home_content g c d xs))
+ColumnShown g c d (Had i) w home = (w ≡ i + 1) × (home ≡ none)
 
 -- the same, with what is at home in this slot
-pub record ColumnAt (g : GraphValue) (c : ℕ) (place : Place) (w : ℕ) (homes : List (mathlib.Core.Option.Option Content)) (slot : ℕ) : Type 0 where
+pub record ColumnAt (g : GraphValue) (c d : ℕ) (place : Place) (w : ℕ) (homes : List (mathlib.Core.Option.Option Content)) (slot : ℕ) : Type 0 where
   pub home : mathlib.Core.Option.Option Content
   pub at : get_elem? homes slot ≡ some home
-  pub shown : ColumnShown g c place w home
+  pub shown : ColumnShown g c d place w home
+
+-- the slot of share j of a column at this place, which this line has, or 0 for nobody. Nobody has a share only where the column is at home
+abbrev pub ShareShown : GraphValue → ℕ → ℕ → ℕ → Place → ℕ → mathlib.Core.Option.Option Content → Type 0
+ShareShown g c j d place zero home = (xs : List ℕ) × (place ≡ Home xs) × (home ≡ some (Share (share_value g c j d xs)))
+ShareShown g c j d place (suc i) home = home ≡ none
+
+-- the same, with what is at home in this slot
+pub record ShareAt (g : GraphValue) (c j d : ℕ) (place : Place) (who : ℕ) (homes : List (mathlib.Core.Option.Option Content)) (slot : ℕ) : Type 0 where
+  pub home : mathlib.Core.Option.Option Content
+  pub at : get_elem? homes slot ≡ some home
+  pub shown : ShareShown g c j d place who home
 
 -- RESERVATIONS. The holder that is exclusive, if there is one
 abbrev pub alone_in : GraphValue → List ℕ → Option ℕ
@@ -142,13 +173,17 @@ pub record AreHandles (stages : List LineStage) (handles : List Handle) : Type 0
   pub once : (a b : ℕ) (h : Handle) → slice_get handles a ≡ Some h → slice_get handles b ≡ Some h → a ≡ b
 
 -- ALL WORDS AND SLOTS show this run and these handles, where the seats issue, owe and have as much as is told
-pub record WordsShow (g : GraphValue) (e : Events) (z : Size) (run : Run) (handles : List Handle) (issues owes : ℕ → ℕ) (issue_turns : ℕ) (words : List ℕ) (homes : List (mathlib.Core.Option.Option Content)) : Type 0 where
+pub record WordsShow (g : GraphValue) (e : Events) (z : Size) (run : Run) (loans : Loans) (handles : List Handle) (issues owes : ℕ → ℕ) (issue_turns : ℕ) (words : List ℕ) (homes : List (mathlib.Core.Option.Option Content)) : Type 0 where
   pub wide : length words ≡ word_count z
   pub deep : length homes ≡ slot_count z
   pub lines : (i : ℕ) → i < z.lines → LineAt e (handle_at handles i) (stage_at run.stages i) (issues i) (slice_index words (status_word z i)) homes (line_slot z i)
   pub times : (i : ℕ) → i < z.lines → slice_index words (time_word z i) + owes i ≡ time_code (time_at run.times i)
   pub values : (p : ℕ) → p < z.lines → slice_index words (value_word z p) ≡ slice_index run.values p
-  pub columns : (c : ℕ) → c < z.cols → ColumnAt g c (place_at run.places c) (slice_index words (turn_word z c)) homes (column_slot z c)
+  pub columns : (c : ℕ) → c < z.cols → ColumnAt g c (loans.lending c) (place_at run.places c) (slice_index words (turn_word z c)) homes (column_slot z c)
+  pub share_words : (c j : ℕ) → c < z.cols → j < share_count g c → slice_index words (share_word z c j) ≡ loans.holder c j
+  pub shares : (c j : ℕ) → c < z.cols → j < share_count g c → ShareAt g c j (loans.lending c) (place_at run.places c) (loans.holder c j) homes (share_slot z c j)
+  -- the place of a share that a column has not
+  pub spare : (c j : ℕ) → c < z.cols → share_count g c ≤ j → j < z.planes → get_elem? homes (share_slot z c j) ≡ some (some Nothing)
   pub locks : (l : ℕ) → l < z.holds → slice_index words (lock_word z l) ≡ lock_code g (list_at run.holders l)
   pub clock : slice_index words (clock_word z) ≡ run.clock
   pub issue_turn : IssueTurnAt e z.lines handles issue_turns (slice_index words (issue_turn_word z)) homes (issue_turn_slot z)
@@ -159,11 +194,31 @@ pub record HasEndedAt (run : Run) (i t : ℕ) : Type 0 where
   pub at : time_at run.times i ≡ Some t
 
 -- A VIEW
+-- a share of a line, that of its column while this is at home: it shows the column's cells, and is of its lending
+pub record HasShare (g : GraphValue) (places : List Place) (loans : Loans) (line : ℕ) (s : TakenShare) : Type 0 where
+  pub near : (s.column < length (columns g)) × (s.number < share_count g s.column)
+  pub holder : loans.holder s.column s.number ≡ line + 1
+  pub shows : ((place_at places s.column ≡ Home s.cells) × (loans.lending s.column ≡ s.lending)) ⊎ (place_at places s.column ≡ Had line)
+
+-- no share stands twice
+abbrev pub SharesDiffer : List TakenShare → Type 0
+SharesDiffer [] = Unit {0}
+SharesDiffer (s ∷ ss) = ((t : TakenShare) → Contains ss t → t.column ≡ s.column → t.number ≡ s.number → ⊥) × SharesDiffer ss
+
+-- the shares of a line
+pub record HasShares (g : GraphValue) (places : List Place) (loans : Loans) (line : ℕ) (shares : List TakenShare) : Type 0 where
+  pub differ : SharesDiffer shares
+  pub each : (s : TakenShare) → Contains shares s → HasShare g places loans line s
+  -- it lists all that it has, and has all shares of a column that it has
+  pub all : (k j : ℕ) → k < length (columns g) → j < share_count g k → loans.holder k j ≡ line + 1 → (s : TakenShare) × Contains shares s × (s.column ≡ k) × (s.number ≡ j)
+  pub whole : (k j : ℕ) → place_at places k ≡ Had line → j < share_count g k → loans.holder k j ≡ line + 1
+
 -- how far the work of a line has come
-pub record Progress (g : GraphValue) (run : Run) (c : Claim) : Type 0 where
+pub record Progress (g : GraphValue) (run : Run) (loans : Loans) (c : Claim) : Type 0 where
   pub stage : stage_at run.stages c.line ≡ working c.ends
   pub has : (k : ℕ) (ks : List ℕ) → Contains c.columns (k, ks) → (place_at run.places k ≡ Had c.line) × (list_at run.back k ≡ ks)
   pub only : (k : ℕ) → place_at run.places k ≡ Had c.line → (ks : List ℕ) × Contains c.columns (k, ks)
+  pub shares : HasShares g run.places loans c.line c.shares
   pub puts : (k : ℕ) → is_listed (list_at run.back k) c.line ≡ is_listed c.puts k
   pub arrived : is_listed run.arrived c.line ≡ c.arrived
   pub holds : (l : ℕ) → Acquires g c.line l → is_listed (list_at run.holders l) c.line ≡ c.holds
@@ -171,13 +226,13 @@ pub record Progress (g : GraphValue) (run : Run) (c : Claim) : Type 0 where
   pub freed : is_listed run.freed c.line ≡ c.freed
 
 -- what a seat knows and has holds of this run and these handles
-pub record Fits (g : GraphValue) (e : Events) (run : Run) (handles : List Handle) (v : View) : Type 0 where
+pub record Fits (g : GraphValue) (e : Events) (run : Run) (loans : Loans) (handles : List Handle) (v : View) : Type 0 where
   pub keys : (x : Ground) → Contains v.keys x → x ≡ ground_of g e
   pub issued : (i : ℕ) → Contains v.issued i → IsTrue (issued run.stages i)
   pub ended : (i : ℕ) (x : End) → Contains v.ended (i, x) → stage_at run.stages i ≡ Ended x
   pub times : (i t : ℕ) → Contains v.times (i, t) → HasEndedAt run i t
   pub named : (hs : List Handle) → Contains v.named hs → Begins hs handles
-  pub claim : (c : Claim) → v.claim ≡ Some c → Progress g run c
+  pub claim : (c : Claim) → v.claim ≡ Some c → Progress g run loans c
   pub event : (c : Claim) → v.claim ≡ Some c → handle_at handles c.line ≡ c.event
   -- it issues one line in the issue turn
   pub issuing : (i : ℕ) → v.issuing ≡ Some i → (stage_at run.stages i ≡ Unissued) × (i < length g.lines)
@@ -221,13 +276,16 @@ pub record AreNumbered (views : List View) : Type 0 where
 -- THE WHOLE RULE. Words, slots at home and views show one sound state of a run
 pub record Shown (g : GraphValue) (e : Events) (s : State Content View) : Type 0 where
   pub run : Run
+  pub loans : Loans
   pub handles : List Handle
   pub sound : Sound g run
   pub are_handles : AreHandles run.stages handles
-  pub words : WordsShow g e (size_of g) run handles (λ i. total (issues_at i) s.views) (λ i. total (owes_at i) s.views) (total has_issue_turn s.views) s.words s.homes
-  pub each_view : (j : ℕ) (v : View) → get_elem? s.views j ≡ some v → Fits g e run handles v
+  pub words : WordsShow g e (size_of g) run loans handles (λ i. total (issues_at i) s.views) (λ i. total (owes_at i) s.views) (total has_issue_turn s.views) s.words s.homes
+  pub each_view : (j : ℕ) (v : View) → get_elem? s.views j ≡ some v → Fits g e run loans handles v
   -- the work of a line is with one seat where the line is out or ending, and else with none
   pub works : (i : ℕ) → total (runs_at i) s.views ≡ busy (stage_at run.stages i)
+  -- only a line whose work is out has shares
+  pub holders : (c j i : ℕ) → c < length (columns g) → j < share_count g c → loans.holder c j ≡ i + 1 → IsTrue (out run.stages i)
   pub numbers : AreNumbered s.views
   pub known : IsKnown run handles s.views
 

@@ -10,16 +10,19 @@ ghost use Rattle.event_table.specs.declared.handle.Handle.{Handle as TheHandle};
 ghost use Rattle.shared_events.specs.Seats.{Keeps};
 ghost use Rattle.shared_events.specs.Views.{lists, IsAt as IsSeatAt};
 ghost use Rattle.run_words.specs.declared.content.Content.{Content as TheContent};
-ghost use Rattle.run_words.specs.declared.content.Content.TheVariants.{Cells};
 ghost use Rattle.run_words.specs.Emptying.{AreTaken, AreLineItems, IsLineItem, IsSettled};
-ghost use Rattle.run_words.specs.Layout.{size_of, line_slot, column_slot, slot_count};
+ghost use Rattle.run_words.specs.Layout.{size_of, line_slot, slot_count};
+ghost use Rattle.run_words.specs.Lending.{LiesIn, MayJoin, joined, all_for};
 ghost use Rattle.run_words.specs.Preparing.{AreOut};
+ghost use Rattle.share_words.specs.Shares.{AreShares, share_count};
 
 use crate::content::Content;
+use crate::lending::column_of;
 use atomic_table::Closed;
 use graph_model::graph::Graph;
-use index_spaces::column::Column;
+use index_spaces::shares::ColumnShare;
 use line_effects::homes::Homes;
+use share_words::ShareCounts;
 use shared_events::{Events, Seat};
 use std::alloc::Global;
 
@@ -51,12 +54,12 @@ pub(crate) fn settle_lines(
 )
     requires at { IsSeatAt events.now seat.old }
     requires deep { slots_len closed.old.slots ≡ slot_count (size_of graph.now) }
-    requires taken { AreTaken (size_of graph.now) 0 0 (slots_filled closed.old.slots) }
+    requires taken { AreTaken (size_of graph.now) 0 0 0 (slots_filled closed.old.slots) }
     requires items { AreLineItems events.now (size_of graph.now) (slots_items closed.old.slots) }
     ensures at { IsSeatAt events.now seat.new }
     ensures kept { Keeps (lists seat.old) (lists seat.new) }
     ensures deep { slots_len closed.new.slots ≡ slot_count (size_of graph.now) }
-    ensures taken { AreTaken (size_of graph.now) (length graph.now.lines) 0 (slots_filled closed.new.slots) }
+    ensures taken { AreTaken (size_of graph.now) (length graph.now.lines) 0 0 (slots_filled closed.new.slots) }
     ensures same { (slots_items closed.new.slots ≡ slots_items closed.old.slots) × (closed.new.words ≡ closed.old.words) }
     ensures settled { (i : ℕ) (x : TheContent) → i < length graph.now.lines
         → get_elem? (slots_items closed.old.slots) (line_slot (size_of graph.now) i) ≡ some x → IsSettled (lists seat.new) x }
@@ -66,38 +69,71 @@ pub(crate) fn settle_lines(
     }
 }
 
-/// The column in the slot of a column.
-fn column_in(content: Content) -> Column
-    requires { (x : ColumnValue) × (content ≡ Cells x) }
-    ensures { content ≡ Cells result }
+/// Some shares of a column, and what lies in the place of one: a share more, or nothing.
+pub(crate) fn joined(all: Option<ColumnShare>, content: Content) -> Option<ColumnShare>
+    requires { MayJoin all content }
+    ensures { result ≡ joined all content }
 {
-    let Content::Cells(column) = content else {
-        unreachable!()
-    };
-    column
+    match content {
+        Content::Nothing => all,
+        Content::Share(share) => match all {
+            None => Some(share),
+            Some(mut all) => {
+                all.join(share);
+                Some(all)
+            }
+        },
+        _ => unreachable!(),
+    }
+}
+
+/// All shares of a column, out of their places, if it has some.
+fn shares_of(
+    graph: &Graph,
+    planes: u32,
+    closed: &mut Closed<Content, Global>,
+    c: u32,
+) -> Option<ColumnShare>
+    requires known { c < length (columns graph.now) }
+    requires planes { planes ≡ (size_of graph.now).planes }
+    requires deep { slots_len closed.old.slots ≡ slot_count (size_of graph.now) }
+    requires taken { AreTaken (size_of graph.now) (length graph.now.lines) c 0 (slots_filled closed.old.slots) }
+    requires there { (x : ColumnValue) × LiesIn graph.now (slots_items closed.old.slots) c x }
+    ensures deep { slots_len closed.new.slots ≡ slot_count (size_of graph.now) }
+    ensures taken { AreTaken (size_of graph.now) (length graph.now.lines) c planes (slots_filled closed.new.slots) }
+    ensures same { slots_items closed.new.slots ≡ slots_items closed.old.slots }
+    ensures all { (x : ColumnValue) (h : LiesIn graph.now (slots_items closed.old.slots) c x) → result ≡ all_for (share_count graph.now c) h.lending x }
+{
+    let columns = graph.columns() as usize;
+    let first = graph.lines() as usize + columns + c as usize;
+    let mut all = None;
+    for j in 0..planes {
+        all = joined(all, closed.take(first + j as usize * columns));
+    }
+    all
 }
 
 /// Moves the columns out of their slots and home.
 pub(crate) fn homes_of(
     graph: &Graph,
+    shares: &ShareCounts,
     closed: &mut Closed<Content, Global>,
     mut homes: Homes,
 ) -> Homes
     requires out { AreOut graph.now homes }
+    requires shares { AreShares graph.now shares.now }
     requires deep { slots_len closed.old.slots ≡ slot_count (size_of graph.now) }
-    requires taken { AreTaken (size_of graph.now) (length graph.now.lines) 0 (slots_filled closed.old.slots) }
-    requires items { (c : ℕ) → c < length (columns graph.now) → (x : ColumnValue)
-        × (get_elem? (slots_items closed.old.slots) (column_slot (size_of graph.now) c) ≡ some (Cells x)) }
+    requires taken { AreTaken (size_of graph.now) (length graph.now.lines) 0 0 (slots_filled closed.old.slots) }
+    requires items { (c : ℕ) → c < length (columns graph.now) → (x : ColumnValue) × LiesIn graph.now (slots_items closed.old.slots) c x }
     ensures deep { slots_len closed.new.slots ≡ slot_count (size_of graph.now) }
-    ensures taken { AreTaken (size_of graph.now) (length graph.now.lines) (length (columns graph.now)) (slots_filled closed.new.slots) }
+    ensures taken { AreTaken (size_of graph.now) (length graph.now.lines) (length (columns graph.now)) 0 (slots_filled closed.new.slots) }
     ensures each { length result ≡ length (columns graph.now) }
-    ensures home { (c : ℕ) (x : ColumnValue) → c < length (columns graph.now)
-        → get_elem? (slots_items closed.old.slots) (column_slot (size_of graph.now) c) ≡ some (Cells x)
-        → slice_get result c ≡ Some (Some x) }
+    ensures home { (c : ℕ) (x : ColumnValue) → c < length (columns graph.now) → LiesIn graph.now (slots_items closed.old.slots) c x → slice_get result c ≡ Some (Some x) }
 {
     let lines = graph.lines();
     for c in 0..graph.columns() {
-        let column = column_in(closed.take(lines as usize + c as usize));
+        let all = shares_of(graph, shares.planes(), closed, c);
+        let column = column_of(closed.take(lines as usize + c as usize), all);
         homes.give(c, column);
     }
     homes

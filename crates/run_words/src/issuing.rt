@@ -15,15 +15,17 @@ ghost use Rattle.run_words.specs.Plays.{issued_at, without_issue, with_issue_tur
 ghost use Rattle.run_words.specs.Premises.{IsNumbered};
 ghost use Rattle.run_words.specs.Rule.{IsIssueState};
 ghost use Rattle.run_words.specs.Standing.{KeepsWaiters, IssuesInTurn, IsStill};
+ghost use Rattle.share_words.specs.Shares.{AreShares};
 ghost use Rattle.run_words.specs.Words.{graph_of, events_of, IsSeatOf, IsAt, KnowsIssued, KnowsEnded, KnowsHandles, IsEventSeat, FoundTaken, events_seat, numbers_of, splits_of};
 
-use crate::content::{Content, IssueState};
+use crate::content::{BoxedIssueState, Content, IssueState};
 use crate::moves::Place;
 use crate::seats::WordSeat;
 use crate::words::Words;
 use event_table::Handle;
 use graph_model::graph::Graph;
 use run_parts::Issue;
+use share_words::ShareCounts;
 use shared_events::Seat;
 
 /// Puts a handle at the end of a list that has room for it.
@@ -39,7 +41,7 @@ fn push_within(handles: &mut Vec<Handle>, handle: Handle)
 }
 
 /// The issue state.
-pub(crate) fn issue_state_of(content: Content) -> IssueState
+pub(crate) fn issue_state_of(content: Content) -> BoxedIssueState
     requires { (d : TheIssueState) × (content ≡ Issuer d) }
     ensures { content ≡ Issuer result }
 {
@@ -50,10 +52,12 @@ pub(crate) fn issue_state_of(content: Content) -> IssueState
 }
 
 /// The slot of the issue state.
-pub(crate) fn issue_turn_slot(graph: &Graph) -> usize
+pub(crate) fn issue_turn_slot(graph: &Graph, shares: &ShareCounts) -> usize
+    requires { AreShares graph.now shares.now }
     ensures { result ≡ issue_turn_slot (size_of graph.now) }
 {
-    graph.lines() as usize + graph.columns() as usize
+    let columns = graph.columns() as usize;
+    graph.lines() as usize + columns + shares.planes() as usize * columns
 }
 
 impl<'g> Words<'g> {
@@ -61,7 +65,7 @@ impl<'g> Words<'g> {
     pub(crate) fn issue_turn_slot(&self) -> usize
         ensures { result ≡ issue_turn_slot (size_of (graph_of self.now)) }
     {
-        issue_turn_slot(self.base.checked.graph())
+        self.issue_slot
     }
 
     /// Issues the next line, in the issue turn and with the issue state. False comes where
@@ -114,7 +118,7 @@ impl<'g> Words<'g> {
 
     /// Takes the issue turn and the issue state. None comes where the turn was found in
     /// another's hand.
-    pub(crate) fn take_issue_state(&self, seat: &mut Place) -> Option<IssueState>
+    pub(crate) fn take_issue_state(&self, seat: &mut Place) -> Option<BoxedIssueState>
         requires at { IsSeatOf self.now seat.old }
         requires idle { seat.old.me.0.issue_turn ≡ None }
         requires numbered { IsNumbered seat.old.me.0 }
@@ -133,7 +137,7 @@ impl<'g> Words<'g> {
     }
 
     /// Puts the issue state back and gives its turn.
-    pub(crate) fn give_issue_state(&self, seat: &mut Place, issue_turn: IssueState)
+    pub(crate) fn give_issue_state(&self, seat: &mut Place, issue_turn: BoxedIssueState)
         requires at { IsSeatOf self.now seat.old }
         requires quiet { seat.old.me.0.issuing ≡ None }
         requires turn { seat.old.me.0.issue_turn ≡ Some issue_turn.handles.items }
@@ -219,7 +223,7 @@ impl<'g> Words<'g> {
         let Some(mut issue_turn) = self.take_issue_state(&mut seat.inner) else {
             return Issue::Other;
         };
-        let answer = self.issue_in_turn(&mut seat.inner, &mut seat.events, &mut issue_turn);
+        let answer = self.issue_in_turn(&mut seat.inner, &mut seat.events, &mut *issue_turn.state);
         self.give_issue_state(&mut seat.inner, issue_turn);
         answer
     }

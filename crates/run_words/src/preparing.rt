@@ -1,6 +1,6 @@
-//! Preparing a run.
+//! What a run is prepared from: its first words and slots, and the issue state.
 
-ghost use Rattle.std.specs.Prelude.{◌≡◌, ◌+◌, ◌-◌, ◌≢◌, ◌<◌, ◌≤◌, ◌++◌, ◌∷◌, [], length, vec_len, replicate, Some, None, slice_index_or, slice_set, IfOk};
+ghost use Rattle.std.specs.Prelude.{ℕ, ◌≡◌, ◌+◌, ◌-◌, ◌≢◌, ◌<◌, ◌≤◌, ◌++◌, ◌∷◌, [], length, vec_len, replicate, Some, None, slice_index_or, slice_set, IfOk};
 ghost use Rattle.std.specs.Vec.{vec_capacity};
 ghost use Rattle.index_spaces.specs.Column.{ColumnValue};
 ghost use Rattle.graph_meaning.specs.Effect.{zero_cells};
@@ -10,28 +10,29 @@ ghost use Rattle.line_effects.specs.Homes.{all_home};
 ghost use Rattle.run_state.specs.Start.{first_value};
 ghost use Rattle.shared_events.specs.declared.events.Events.{Events as TheEvents};
 ghost use Rattle.shared_events.specs.Views.{shape_of, IsAt as IsEventsAt, IsSetOf, IsWaiterOf, number_of, taken_of, size_of as set_size};
-ghost use Rattle.run_words.specs.Layout.{size_of};
+ghost use Rattle.run_words.specs.Layout.{size_of, slot_count};
 ghost use Rattle.run_words.specs.Opening.{AreFirstWords, AreFirstSlots};
-ghost use Rattle.run_words.specs.Preparing.{IsLoose, AreLoose, AreWaiters, AreHome, AreEmpty, AreOut};
+ghost use Rattle.run_words.specs.Lending.{in_place, place_for, rest_for};
+ghost use Rattle.run_words.specs.Preparing.{IsLoose, AreLoose, AreWaiters, AreMoved, ArePlaced, AreSpread, AreEmpty, AreOut};
 ghost use Rattle.run_words.specs.Rule.{IsIssueState};
-ghost use Rattle.run_words.specs.Words.{graph_of, events_of, IsAt, numbers_of, splits_of};
+ghost use Rattle.run_words.specs.declared.content.Content.TheVariants.{Nothing};
+ghost use Rattle.share_words.specs.Shares.{AreShares};
 
-use crate::base::Base;
-use crate::closing_room::ClosingRoom;
-use crate::content::{Content, IssueState};
-use crate::moves::APART;
-use crate::seats::WordSeat;
-use crate::words::Words;
-use atomic_table::{Refused, Table};
-use checked_graph::Checked;
+use crate::content::{BoxedIssueState, Content, IssueState};
+use crate::issuing::issue_turn_slot;
+use crate::lending::content_of;
+use crate::moves::{APART, clock_word};
 use graph_meaning::line_laws::phases_fit;
 use graph_model::graph::Graph;
 use graph_terms::verb::Verb;
 use index_spaces::NoMemory;
 use index_spaces::column::Column;
+use index_spaces::shares::ColumnShare;
 use line_effects::homes::Homes;
+use share_words::ShareCounts;
 use shared_events::{Events, Seat, Waiter, WaiterSet};
 use std::alloc::{AllocError, Global};
+use std::mem::replace;
 
 /// Lets go of what is no event of a line that has not ended: such an event may not be dropped.
 fn let_loose(content: Content)
@@ -41,13 +42,15 @@ fn let_loose(content: Content)
         Content::Nothing => {}
         Content::EventReceipt(receipt) => drop(receipt),
         Content::Cells(column) => drop(column),
+        Content::Lent(lender) => drop(lender),
+        Content::Share(share) => drop(share),
         Content::Issuer(issue_turn) => drop(issue_turn),
         _ => unreachable!(),
     }
 }
 
-/// Lets go of the slots of a run that is not to be.
-fn discard(mut slots: Vec<Content>)
+/// Lets go of slots.
+pub(crate) fn discard(mut slots: Vec<Content>)
     requires { AreLoose slots.items }
 {
     while let Some(content) = slots.pop() {
@@ -81,11 +84,16 @@ fn first_value(graph: &Graph, line: u32) -> u64
 }
 
 /// The words of a run that begins.
-fn first_words(alloc: Global, graph: &Graph) -> Result<Vec<u64>, NoMemory>
+pub(crate) fn first_words(
+    alloc: Global,
+    graph: &Graph,
+    shares: &ShareCounts,
+) -> Result<Vec<u64>, NoMemory>
+    requires { AreShares graph.now shares.now }
     ensures { IfOk result (λ words. AreFirstWords graph.now (size_of graph.now) words.items) }
 {
     let lines = graph.lines() as usize;
-    let count = 3 * lines + graph.columns() as usize + graph.locks() as usize + 3 * APART;
+    let count = clock_word(graph, shares) + 2 * APART;
     let Ok(mut words) = zeros_of(alloc, count) else {
         return Err(NoMemory);
     };
@@ -130,40 +138,181 @@ fn take_home(homes: &mut Homes, c: u32) -> Column
     }
 }
 
-/// Moves the columns of a graph, each cell 0, out of their homes and behind the slots of the lines.
-fn move_columns(graph: &Graph, homes: &mut Homes, slots: &mut Vec<Content>)
+/// Moves the columns of a graph, each cell 0, out of their homes and behind the slots of the lines, and all shares of
+/// each, where it has some, into a list.
+fn move_columns(
+    graph: &Graph,
+    homes: &mut Homes,
+    shares: &ShareCounts,
+    slots: &mut Vec<Content>,
+    lent: &mut Vec<Content>,
+)
     requires zero { homes.old ≡ all_home graph.now zero_cells }
-    requires empty { AreHome graph.now 0 slots.old.items }
-    requires loose { AreLoose slots.old.items }
-    requires room { length graph.now.lines + length (graph_columns graph.now) + 1 ≤ vec_capacity slots.old }
-    ensures loose { AreLoose slots.new.items }
-    ensures home { AreHome graph.now (length (graph_columns graph.now)) slots.new.items }
-    ensures room { length graph.now.lines + length (graph_columns graph.now) + 1 ≤ vec_capacity slots.new }
+    requires shares { AreShares graph.now shares.now }
+    requires empty { AreMoved graph.now 0 slots.old.items lent.old.items }
+    requires loose { AreLoose slots.old.items × AreLoose lent.old.items }
+    requires room { (slot_count (size_of graph.now) ≤ vec_capacity slots.old) × (length (graph_columns graph.now) ≤ vec_capacity lent.old) }
+    ensures moved { AreMoved graph.now (length (graph_columns graph.now)) slots.new.items lent.new.items }
+    ensures loose { AreLoose slots.new.items × AreLoose lent.new.items }
+    ensures room { slot_count (size_of graph.now) ≤ vec_capacity slots.new }
     ensures out { AreOut graph.now homes.new }
 {
     for c in 0..graph.columns() {
         let column = take_home(homes, c);
-        push_slot(slots, Content::Cells(column));
+        let (content, all) = content_of(column, shares.of_column(c));
+        push_slot(slots, content);
+        push_slot(lent, share_or_nothing(all));
+    }
+}
+
+/// What lies in the place of shares, if there are some.
+fn share_or_nothing(all: Option<ColumnShare>) -> Content
+    ensures { result ≡ in_place all }
+{
+    match all {
+        Some(all) => Content::Share(all),
+        None => Content::Nothing,
+    }
+}
+
+/// The share of this number, off what is left of so many, or nothing where there are no more.
+fn next_share(rest: &mut Content, number: u32, count: u32) -> Content
+    requires number { 0 < number }
+    requires rest { (d : ℕ) × (x : ColumnValue) × (rest.old ≡ rest_for count number d x) }
+    ensures rest { (d : ℕ) (x : ColumnValue) → rest.old ≡ rest_for count number d x → rest.new ≡ rest_for count (number + 1) d x }
+    ensures share { (d : ℕ) (x : ColumnValue) → rest.old ≡ rest_for count number d x → result ≡ place_for count number d x }
+{
+    if number >= count {
+        return Content::Nothing;
+    }
+    let Content::Share(share) = rest else {
+        unreachable!()
+    };
+    Content::Share(share.split_one())
+}
+
+/// Puts the shares of a number, off what is left of each column's, behind the other slots.
+fn push_plane(
+    graph: &Graph,
+    shares: &ShareCounts,
+    number: u32,
+    slots: &mut Vec<Content>,
+    lent: &mut Vec<Content>,
+)
+    requires number { (0 < number) × (number < (size_of graph.now).planes) }
+    requires shares { AreShares graph.now shares.now }
+    requires placed { ArePlaced graph.now number 0 slots.old.items lent.old.items }
+    requires loose { AreLoose slots.old.items × AreLoose lent.old.items }
+    requires room { slot_count (size_of graph.now) ≤ vec_capacity slots.old }
+    ensures placed { ArePlaced graph.now (number + 1) 0 slots.new.items lent.new.items }
+    ensures loose { AreLoose slots.new.items × AreLoose lent.new.items }
+    ensures room { slot_count (size_of graph.now) ≤ vec_capacity slots.new }
+{
+    for c in 0..graph.columns() {
+        let count = shares.of_column(c);
+        let share = next_share(&mut lent[c as usize], number, count);
+        push_slot(slots, share);
+    }
+}
+
+/// Puts nothing behind other slots, so often.
+fn push_nothing(slots: &mut Vec<Content>, count: usize)
+    requires room { vec_len slots.old + count ≤ vec_capacity slots.old }
+    ensures items { slots.new.items ≡ slots.old.items ++ replicate count Nothing }
+    ensures capacity { vec_capacity slots.old ≤ vec_capacity slots.new }
+{
+    for _place in 0..count {
+        push_slot(slots, Content::Nothing);
+    }
+}
+
+/// Puts what is left of the shares of each column into the places of the first shares, which begin here and
+/// hold nothing.
+fn put_rests(graph: &Graph, slots: &mut Vec<Content>, mut rests: Vec<Content>)
+    requires planes { 0 < (size_of graph.now).planes }
+    requires spread { AreSpread graph.now (length (graph_columns graph.now)) slots.old.items rests.items }
+    requires loose { AreLoose slots.old.items × AreLoose rests.items }
+    ensures spread { AreSpread graph.now 0 slots.new.items [] }
+    ensures loose { AreLoose slots.new.items }
+    ensures room { vec_capacity slots.new ≡ vec_capacity slots.old }
+{
+    let first = graph.lines() as usize + graph.columns() as usize;
+    while let Some(rest) = rests.pop() {
+        let at = first + rests.len();
+        let_loose(replace(&mut slots[at], rest));
+    }
+    rests.destroy_empty();
+}
+
+/// Spreads the shares of columns over their places, behind the other slots.
+fn spread_shares(
+    graph: &Graph,
+    shares: &ShareCounts,
+    slots: &mut Vec<Content>,
+    mut lent: Vec<Content>,
+)
+    requires shares { AreShares graph.now shares.now }
+    requires moved { AreMoved graph.now (length (graph_columns graph.now)) slots.old.items lent.items }
+    requires loose { AreLoose slots.old.items × AreLoose lent.items }
+    requires room { slot_count (size_of graph.now) ≤ vec_capacity slots.old }
+    ensures spread { AreSpread graph.now 0 slots.new.items [] }
+    ensures loose { AreLoose slots.new.items }
+    ensures room { slot_count (size_of graph.now) ≤ vec_capacity slots.new }
+{
+    if shares.planes() == 0 {
+        discard(lent);
+        return;
+    }
+    push_nothing(slots, graph.columns() as usize);
+    for number in 1..shares.planes() {
+        push_plane(graph, shares, number, slots, &mut lent);
+    }
+    put_rests(graph, slots, lent);
+}
+
+/// The slots of lines, without a column, and room for all slots; and room for the shares of all columns.
+fn empty_slots(
+    alloc: Global,
+    graph: &Graph,
+    shares: &ShareCounts,
+) -> Result<(Vec<Content>, Vec<Content>), NoMemory>
+    requires shares { AreShares graph.now shares.now }
+    ensures moved { IfOk result (λ r. AreMoved graph.now 0 r.0.items r.1.items × AreLoose r.0.items × AreLoose r.1.items) }
+    ensures room { IfOk result (λ r. (slot_count (size_of graph.now) ≤ vec_capacity r.0) × (length (graph_columns graph.now) ≤ vec_capacity r.1)) }
+{
+    let lines = graph.lines();
+    let columns = graph.columns() as usize;
+    let count = issue_turn_slot(graph, shares) + 1;
+    let Ok(lent) = Vec::with_capacity(alloc, columns) else {
+        return Err(NoMemory);
+    };
+    match line_slots(alloc, lines, count) {
+        Ok(slots) => Ok((slots, lent)),
+        Err(_) => {
+            lent.destroy_empty();
+            Err(NoMemory)
+        }
     }
 }
 
 /// The slots of a run that begins, with the columns from their homes.
-fn first_slots(
+pub(crate) fn first_slots(
     alloc: Global,
     graph: &Graph,
     homes: &mut Homes,
-    issue_turn: IssueState,
+    shares: &ShareCounts,
+    issue_turn: BoxedIssueState,
 ) -> Result<Vec<Content>, NoMemory>
     requires zero { homes.old ≡ all_home graph.now zero_cells }
+    requires shares { AreShares graph.now shares.now }
     ensures home { (e : TheEvents) → IsIssueState e (length graph.now.lines) [] issue_turn
         → IfOk result (λ slots. AreFirstSlots graph.now e (size_of graph.now) slots.items) }
     ensures loose { IfOk result (λ slots. AreLoose slots.items) }
     ensures out { IfOk result (λ slots. AreOut graph.now homes.new) }
 {
-    let lines = graph.lines();
-    let count = lines as usize + graph.columns() as usize + 1;
-    let mut slots = line_slots(alloc, lines, count)?;
-    move_columns(graph, homes, &mut slots);
+    let (mut slots, mut lent) = empty_slots(alloc, graph, shares)?;
+    move_columns(graph, homes, shares, &mut slots, &mut lent);
+    spread_shares(graph, shares, &mut slots, lent);
     push_slot(&mut slots, Content::Issuer(issue_turn));
     Ok(slots)
 }
@@ -221,11 +370,11 @@ fn last_gen(slots: u32, lines: u32) -> u32
 }
 
 /// The events of a run that begins, the issue state, and a seat.
-fn new_issue_turn(
+pub(crate) fn new_issue_turn(
     alloc: Global,
     slots: u32,
     lines: u32,
-) -> Result<(Events, IssueState, Seat), NoMemory>
+) -> Result<(Events, BoxedIssueState, Seat), NoMemory>
     requires slots { (0 < slots) × (slots ≤ 8192) }
     requires lines { lines ≤ MAX_LINES_OF_THREE }
     ensures shape { IfOk result (λ r. ((shape_of r.0).slots ≡ slots) × ((shape_of r.0).waiters ≡ lines)
@@ -246,57 +395,12 @@ fn new_issue_turn(
     };
     let waiters = all_waiters(alloc, &events, set, lines)?;
     let own = events.split(&mut seat);
-    let issue_turn = IssueState {
+    let state = IssueState {
         maker,
         handles,
         seat: own,
         waiters,
     };
+    let issue_turn = BoxedIssueState::new(alloc, state)?;
     Ok((events, issue_turn, seat))
-}
-
-impl<'g> Words<'g> {
-    /// A run in which no line is issued, with this many event slots, and its first seat, off which
-    /// all others are split. Slots go from the graph's need to 8,192. `NoMemory` comes where memory
-    /// ran out.
-    pub fn prepare(
-        alloc: Global,
-        checked: &'g Checked,
-        slots: u32,
-    ) -> Result<(Words<'g>, WordSeat), NoMemory>
-        requires enough { checked.now.need ≤ slots }
-        requires most { slots ≤ 8192 }
-        ensures graph { IfOk result (λ r. graph_of r.0 ≡ checked.now.graph) }
-        ensures shape { IfOk result (λ r. ((shape_of (events_of r.0)).slots ≡ slots)
-            × ((shape_of (events_of r.0)).waiters ≡ length checked.now.graph.lines)
-            × ((shape_of (events_of r.0)).last_gen ≡ length checked.now.graph.lines - slots)) }
-        ensures at { IfOk result (λ r. IsAt r.0 r.1) }
-        ensures first { IfOk result (λ r. (numbers_of r.1 ≡ 0 ∷ []) × (splits_of r.1 ≡ [])) }
-    {
-        let graph = checked.graph();
-        let _ = checked.need();
-        let words = first_words(alloc, graph)?;
-        let mut closing_room = ClosingRoom::prepare(alloc, graph, slots)?;
-        let (events, issue_turn, seat) = new_issue_turn(alloc, slots, graph.lines())?;
-        let contents = first_slots(alloc, graph, &mut closing_room.homes, issue_turn)?;
-        let base = Base { checked, events };
-        match Table::new(alloc, words.as_slice(), contents, &base) {
-            Ok((table, inner)) => Ok((
-                Words {
-                    base,
-                    table,
-                    closing_room,
-                },
-                WordSeat {
-                    inner,
-                    events: seat,
-                    has_placed: false,
-                },
-            )),
-            Err(Refused { slots }) => {
-                discard(slots);
-                Err(NoMemory)
-            }
-        }
-    }
 }

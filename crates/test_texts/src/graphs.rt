@@ -180,6 +180,40 @@ pub const TWO_READERS: &str = "realm 1\n\
     g = copy a.x a.z s\n\
     end\n";
 
+/// A copy from one part of a column, beside a sum into another part of it.
+pub const READER_AND_SUM: &str = "realm 1\n\
+    space w 0..3\n\
+    space s 0..1\n\
+    space t 2..3\n\
+    inst a w x,y,z\n\
+    f = copy a.x a.y s\n\
+    g = reduce sum a.z a.x t\n\
+    end\n";
+
+/// Two sections with a sum each, of which the first is entered without its reservation: its acquire is cancelled, and what
+/// follows it goes on all the same. A line behind both only reads their column.
+pub const SECTION_WITHOUT_RESERVATION: &str = "realm 1\n\
+    space s 0..1\n\
+    inst a s x,y,z\n\
+    lock l\n\
+    b = fill a.x s 1\n\
+    f = fill a.y s 2\n\
+    u = user\n\
+    w = merge u b\n\
+    q = acquire l on w\n\
+    m = mergei q\n\
+    d = reduce sum a.x a.z s on m\n\
+    n = mergei d\n\
+    r = release q on n\n\
+    k = acquire l on f\n\
+    e = reduce sum a.y a.z s on k\n\
+    o = mergei e\n\
+    t = release k on o\n\
+    v = mergei d e\n\
+    g = copy a.z a.x s on v\n\
+    c = cancel u\n\
+    end\n";
+
 /// Nine fills that wait for one user event, whose trigger stands below them.
 pub const NINE_WAITERS: &str = "realm 1\n\
     space s1 1..1\n\

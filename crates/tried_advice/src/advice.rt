@@ -12,7 +12,7 @@ use graph_model::graph::Graph;
 use index_spaces::NoMemory;
 use std::alloc::Global;
 
-/// The first form of those that are tried by which two lines that race come to be ordered and no rule
+/// A form of those that are tried by which two lines that race come to be ordered and no rule
 /// breaks; the sections are given by their acquires, in the order of their releases. `None` exactly where
 /// no form of these does it. It takes a check of the graph for each form.
 pub fn advise(

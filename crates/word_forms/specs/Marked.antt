@@ -99,6 +99,6 @@ abbrev pub marked_text : Format → Why → List ℕ → List (List ℕ) → Opt
 marked_text format reason line ws None = []
 marked_text format reason line ws (Some k) = cond (has_tab line) (blank_text Tab) (form_marks format reason ws k FORMS)
 
--- the same of a line, nothing where it ends with a carriage return
-abbrev pub word_advice : Format → Why → List ℕ → Option ℕ → List ℕ
-word_advice format reason line mark = cond (ends_with_return line) [] (marked_text format reason line (pieces 32 line) mark)
+-- the same, nothing where the line ends with a carriage return
+abbrev pub word_advice : Format → Why → List ℕ → List (List ℕ) → Option ℕ → List ℕ
+word_advice format reason line ws mark = cond (ends_with_return line) [] (marked_text format reason line ws mark)

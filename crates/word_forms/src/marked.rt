@@ -25,39 +25,25 @@ use line_forms::putting::{put, put_decimal};
 use line_forms::{FORMS, Form};
 use std::alloc::Global;
 
-/// What is told of the word of number `mark`, from 0, of a line, which this reason refuses in a text of
-/// this format, if it refuses one: what kind of word has to stand there, and how that is spelled. Of a
+/// What is told of the word of number `mark`, from 0, of a line of these words, which this reason refuses in
+/// a text of this format, if it refuses one: what kind of word has to stand there, and how that is spelled. Of a
 /// line that ends with a carriage return nothing is told.
 pub fn word_advice(
     alloc: Global,
     format: Format,
     why: Why,
     line: &[u8],
+    words: &[&[u8]],
     mark: Option<usize>,
 ) -> Result<Vec<u8>, NoMemory>
-    ensures { IfOk result (λ v. v.items ≡ word_advice format why line.now mark) }
+    ensures { IfOk result (λ v. v.items ≡ word_advice format why line.now (contents words.now) mark) }
 {
     let mut out = Vec::new(alloc);
     if ends_with_return(line) {
         return Ok(out);
     }
-    put_word_advice(alloc, &mut out, format, why, line, mark)?;
+    put_marked(alloc, &mut out, format, why, line, words, mark)?;
     Ok(out)
-}
-
-/// Puts it by the words of the line.
-fn put_word_advice(
-    alloc: Global,
-    out: &mut Vec<u8>,
-    format: Format,
-    why: Why,
-    line: &[u8],
-    mark: Option<usize>,
-) -> Result<(), NoMemory>
-    ensures { OnOk result (out.new.items ≡ out.old.items ++ marked_text format why line.now (pieces 32 line.now) mark) }
-{
-    let words = split(alloc, line, b' ')?;
-    put_marked(alloc, out, format, why, line, words.as_slice(), mark)
 }
 
 /// Puts what is told of the word of number `mark`, from 0, that is refused for this reason.

@@ -148,7 +148,7 @@ lacks_by g ps o c d f h k =
     ∙ (ap (λ b. not (is_used g (first_piece ps)) || ((is_inst_name g (first_piece ps) && not (has_column g ps)) || (b && not d))) (sym f.hosted)
     ∙ ap (λ b. not (is_used g (first_piece ps)) || ((is_inst_name g (first_piece ps) && not (has_column g ps)) || (is_data_name g (first_piece ps) && not b))) (sym k))))
 
-no_other : (g : GraphValue) (hosted : Bool) (ps : List (List ℕ)) → column_place g hosted ps ≡ None → keeps_column hosted g ps ≡ false
+pub no_other : (g : GraphValue) (hosted : Bool) (ps : List (List ℕ)) → column_place g hosted ps ≡ None → keeps_column hosted g ps ≡ false
 no_other g hosted ps h = keeps_is g hosted ps ∙ ap (λ (x : Option ℕ). is_some x) h
 
 pub absent_tells : (g : GraphValue) (hosted : Bool) (w : List ℕ) (o : Option Found) (named other : Bool) → is_column g.format w ≡ named → IsFound g (first_piece (pieces 46 w)) o → column_place g hosted (pieces 46 w) ≡ None → keeps_column (not hosted) g (pieces 46 w) ≡ other →

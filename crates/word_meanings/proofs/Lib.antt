@@ -5,5 +5,6 @@ pub mod Owners
 pub mod Places
 pub mod ColumnWords
 pub mod SeenWords
+pub mod KnownWords
 pub mod PartLists
 pub mod Public

@@ -5,3 +5,4 @@ pub mod Telling
 pub mod Names
 pub mod Places
 pub mod Laws
+pub mod Recent

@@ -1,5 +1,5 @@
 -- What a word stands for in a graph.
-use Rattle.std.specs.Prelude.{◌≡◌, ℕ, Bool, true, false, cond, ◌&&◌, List, [], ◌∷◌, flat_map, Option, Some, None, is_some, position}
+use Rattle.std.specs.Prelude.{◌≡◌, ℕ, Bool, true, false, cond, ◌&&◌, List, [], ◌∷◌, flat_map, Option, Some, None, is_some, position, IsTrue, MatchOption}
 use Rattle.std.specs.Str.{bytes_eq}
 use Rattle.graph_terms.specs.declared.decl.ColumnInfo.{ColumnInfo}
 use Rattle.graph_terms.specs.declared.decl.BarrierInfo.{BarrierInfo}
@@ -18,6 +18,10 @@ use Rattle.graph_terms.specs.Name.{is_name_in}
 use Rattle.word_meanings.specs.WordFaults.{is_inst_name, is_data_name}
 use Rattle.graph_words.specs.Words.{pieces}
 use Rattle.graph_words.specs.Cuts.{two_pieces}
+
+-- a word as a name of a format, where it is spelled as one
+abbrev pub NameOf : Format → List ℕ → Option (List ℕ) → Type 0
+NameOf format w o = MatchOption o (is_name_in format w ≡ false) (λ name. (name ≡ w) × IsTrue (is_name_in format w))
 
 -- the number of the thing that was found, where it is of one kind
 abbrev pub found_space : Option Found → Option ℕ

@@ -1,5 +1,5 @@
 -- What is to be said of words in their places.
-use Rattle.std.specs.Prelude.{◌≡◌, ℕ, Bool, true, false, not, ◌&&◌, ◌||◌, List, unwrap_or, is_some, Option}
+use Rattle.std.specs.Prelude.{◌≡◌, ℕ, Bool, true, false, not, ◌&&◌, ◌||◌, List, unwrap_or, is_some, Option, Some, None}
 use Rattle.std.specs.List.{list_any}
 use Rattle.graph_terms.specs.Graph.{GraphValue}
 use Rattle.graph_words.specs.Words.{value_of}
@@ -10,6 +10,7 @@ use Rattle.graph_terms.specs.declared.found.Found.{Found}
 use Rattle.word_meanings.specs.Lookups.{is_found_inst, is_found_data, is_found_owner}
 use Rattle.word_meanings.specs.declared.seen.Seen.{Seen}
 use Rattle.word_meanings.specs.declared.faults.Faults.{Faults}
+use Rattle.word_meanings.specs.declared.known.Known.{Known}
 use Rattle.graph_terms.specs.declared.table.Place as table
 use Rattle.graph_terms.specs.declared.table.Place.TheVariants as places
 
@@ -40,6 +41,23 @@ pub record AllTell (g : GraphValue) (ps : List Placed) (faults : Faults) : Type 
   pub unknown : faults.unknown ≡ list_any (λ (p : Placed). unknown g p.0 p.1) ps
   pub unlike : faults.unlike ≡ list_any (λ (p : Placed). unlike g p.0 p.1) ps
   pub misnumbered : faults.misnumbered ≡ list_any (λ (p : Placed). misnumbered g.format p.0 p.1) ps
+
+-- what is said where no reason refuses
+abbrev pub no_faults : Faults
+no_faults = record { misnamed = false; twice = false; unknown = false; unlike = false; misnumbered = false }
+
+-- a reason refuses the word in its place
+abbrev pub is_refused : GraphValue → draft.Place → List ℕ → Bool
+is_refused g p w = misnamed g.format p w || (twice g p w || (unknown g p w || (unlike g p w || misnumbered g.format p w)))
+
+-- or one of the words in their places
+abbrev pub any_refused : GraphValue → List Placed → Bool
+any_refused g ps = list_any (λ (p : Placed). is_refused g p.0 p.1) ps
+
+-- what a word stands for in its place, unless a reason refuses it
+abbrev pub IsKnown : GraphValue → draft.Place → List ℕ → Option Known → Type 0
+IsKnown g p w None = is_refused g p w ≡ true
+IsKnown g p w (Some k) = Tells g p w (record { faults = no_faults; number = k.number; value = k.value })
 
 -- the place of a column of an instance, or of one of data
 abbrev pub place_of_column : Bool → draft.Place

@@ -27,11 +27,11 @@ impl Faults {
         ensures misnumbered { result.misnumbered ≡ (self.misnumbered || more.misnumbered) }
     {
         Faults {
-            misnamed: self.misnamed || more.misnamed,
-            twice: self.twice || more.twice,
-            unknown: self.unknown || more.unknown,
-            unlike: self.unlike || more.unlike,
-            misnumbered: self.misnumbered || more.misnumbered,
+            misnamed: self.misnamed | more.misnamed,
+            twice: self.twice | more.twice,
+            unknown: self.unknown | more.unknown,
+            unlike: self.unlike | more.unlike,
+            misnumbered: self.misnumbered | more.misnumbered,
         }
     }
 }

@@ -5,6 +5,8 @@
 pub mod checks;
 pub mod events;
 pub mod faults;
+pub mod known;
 pub mod lookup;
 pub mod parts;
+pub mod recent;
 pub mod seen;

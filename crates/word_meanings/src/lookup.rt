@@ -38,10 +38,12 @@ pub fn look_up(graph: &Graph, word: &[u8]) -> Lookup
     ensures found { IsFound graph.now word.now result.found }
 {
     let _ = graph.decls();
-    match name_in(graph, word) {
+    // A name is long: it is looked at where it is made.
+    let name = name_in(graph, word);
+    match &name {
         Some(name) => Lookup {
             misnamed: false,
-            found: graph.find(&name),
+            found: graph.find(name),
         },
         None => Lookup {
             misnamed: true,
@@ -135,9 +137,16 @@ pub(crate) fn column(graph: &Graph, hosted: bool, word: &[u8]) -> Option<u32>
     let Some((inst, field)) = around_dot(word) else {
         return None;
     };
-    let inst = name_in(graph, inst)?;
-    let field = name_in(graph, field)?;
-    find_column(graph, hosted, &inst, &field)
+    // Names are long: they are looked at where they are made.
+    let inst = name_in(graph, inst);
+    let Some(inst) = &inst else {
+        return None;
+    };
+    let field = name_in(graph, field);
+    let Some(field) = &field else {
+        return None;
+    };
+    find_column(graph, hosted, inst, field)
 }
 
 /// The names of the graph's format that a word in the place of a column has, with a dot between them.

@@ -30,7 +30,7 @@ pub struct Seen {
     pub value: u64,
 }
 
-fn number(place: Place, found: Option<Found>) -> Option<u32>
+pub(crate) fn number(place: Place, found: Option<Found>) -> Option<u32>
     ensures { result ≡ found_number place found }
 {
     match place {
@@ -42,7 +42,7 @@ fn number(place: Place, found: Option<Found>) -> Option<u32>
     }
 }
 
-fn is_twice(graph: &Graph, place: Place, found: Option<Found>) -> bool
+pub(crate) fn is_twice(graph: &Graph, place: Place, found: Option<Found>) -> bool
     requires { IfSome (found_line found) (λ i. i < length graph.now.lines) }
     ensures { result ≡ found_twice graph.now place found }
 {
@@ -56,7 +56,7 @@ fn is_twice(graph: &Graph, place: Place, found: Option<Found>) -> bool
     }
 }
 
-fn is_alike(graph: &Graph, place: Place, found: Option<Found>) -> bool
+pub(crate) fn is_alike(graph: &Graph, place: Place, found: Option<Found>) -> bool
     requires { IfSome (found_line found) (λ i. i < length graph.now.lines) }
     ensures { result ≡ found_alike graph.now place found }
 {

@@ -65,7 +65,7 @@ x-whole : IsWhole halos (piece 0 0)
 x-whole = record {
   all_points = λ p h. h;
   no_others = λ p h. h;
-  crossed = record {
+  cause = inl (record {
     one = 3;
     other = 4;
     one_in = (3, record { column = 0; space = 3; mode = Read }, (0, omega arith, refl), refl, refl);
@@ -73,7 +73,7 @@ x-whole = record {
     meet = (2, refl, refl);
     not_within = λ w. true≢false (sym (w 0 refl));
     not_around = λ w. true≢false (sym (w 5 refl));
-  };
+  });
 }
 
 halos-pieces : ArePieces halos three

@@ -19,4 +19,5 @@ returns c =
     let a7 = c.in_ok-arg-7.ensures.shape c.option-6.ensures.local ∙ ap₂ with_rule a6 c.option-6.ensures.rule in
     let a8 = c.in_ok-arg-8.ensures.shape c.flag.ensures.local ∙ ap₂ with_rule a7 c.flag.ensures.rule in
     let a9 = c.in_ok-arg-9.ensures.shape c.flag-2.ensures.local ∙ ap₂ with_rule a8 c.flag-2.ensures.rule in
-    IfOk-weaker c.arg-10.result _ _ (λ r h. h.shape c.option-7.ensures.local ∙ ap₂ with_rule a9 c.option-7.ensures.rule) c.arg-10.ensures
+    let a10 = c.in_ok-arg-10.ensures.shape c.option-7.ensures.local ∙ ap₂ with_rule a9 c.option-7.ensures.rule in
+    IfOk-weaker c.arg-11.result _ _ (λ r h. h.shape c.flag-3.ensures.local ∙ ap₂ with_rule a10 c.flag-3.ensures.rule) c.arg-11.ensures

@@ -16,10 +16,10 @@ use graph_terms::why::Why;
 use index_spaces::laws::points_are_listed;
 
 impl Graph {
-    ghost use Rattle.std.specs.Prelude.{◌≡◌, false, IsTrue};
+    ghost use Rattle.std.specs.Prelude.{◌≡◌, ◌<◌, true, false, IsTrue, length};
     ghost use Rattle.std.specs.Option.{option_map_or};
     ghost use Rattle.std.specs.List.{list_any};
-    ghost use Rattle.graph_terms.specs.Graph.{line_passes, is_user, is_phase, is_acquire};
+    ghost use Rattle.graph_terms.specs.Graph.{line_passes, is_user, is_phase, is_acquire, columns, space_at, column_space};
     ghost use Rattle.graph_terms.specs.Access.{verb_accesses, present};
     ghost use Rattle.graph_indexes.specs.Counts.{counts_of};
     ghost use Rattle.graph_terms.specs.Fits.{decl_fault, line_fault, with_line, is_used, decl_unknown, verb_repeats, verb_unknown, access_unknown, line_unknown, verb_unlike, access_outside, phase_count, arrives_late};
@@ -227,8 +227,19 @@ impl Graph {
         ensures { result ≡ access_outside self.now access.now }
     {
         points_are_listed();
+        if self.is_over(access.column, access.space) {
+            return false;
+        }
         let column = self.column_space(access.column);
         !self.space(access.space).is_within(column)
+    }
+
+    /// Whether a column is declared over this space. Then it need not be compared with itself.
+    fn is_over(&self, c: u32, s: u32) -> bool
+        requires { c < length (columns self.now) }
+        ensures { result ≡ true → space_at self.now s ≡ column_space self.now c }
+    {
+        self.tables.column(c).space == s
     }
 
     /// How many arrivals complete a phase.

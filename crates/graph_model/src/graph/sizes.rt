@@ -171,8 +171,8 @@ impl Graph {
         if c >= self.columns() {
             return 1;
         }
-        let (inst, field) = self.column_name(c);
-        name_size(&inst) + name_size(&field)
+        let column = self.column_info(c);
+        name_size(&column.inst) + name_size(&column.field)
     }
 
     pub(super) fn space_size(&self, s: u32) -> u64
@@ -182,7 +182,7 @@ impl Graph {
         if s >= self.spaces() {
             return 1;
         }
-        name_size(&self.space_name(s))
+        name_size(self.name_of_space(s))
     }
 
     fn lock_size(&self, l: u32) -> u64

@@ -1,14 +1,14 @@
 //! What keeps a line from being taken.
 
 ghost use Rattle.std.specs.Prelude.{◌≡◌};
-ghost use Rattle.run_core.specs.Kept.{shown_stage};
+ghost use Rattle.run_lists.specs.Stages.{shown_stage};
 ghost use Rattle.run_parts.specs.Shown.{stage_of};
 
 use crate::answers::Attempt;
-use crate::columns::busy_column;
-use crate::holders::busy_lock;
 use crate::run::Core;
-use crate::sources::{is_cancelled, least_left};
+use lent_columns::lines::busy_column;
+use run_lists::holders::busy_lock;
+use run_lists::sources::{is_cancelled, least_left};
 use run_parts::{Progress, Stage, Thing};
 use run_state::laws::{claim_keeps_sound, out_conflict_only_exempt};
 
@@ -26,7 +26,8 @@ pub(crate) enum Finding {
 impl<'g> Core<'g> {
     ghost use Rattle.std.specs.Prelude.{◌≡◌, ◌≢◌, ℕ, ◌<◌, length};
     ghost use Rattle.run_core.specs.Core.{slots_given};
-    ghost use Rattle.run_core.specs.Steps.{Attempts, StandsBy, IsLeastLeft};
+    ghost use Rattle.run_lists.specs.Sources.{IsLeastLeft};
+    ghost use Rattle.run_core.specs.Steps.{Attempts, StandsBy};
     ghost use Rattle.run_core.specs.Findings.{IsFound};
     ghost use Rattle.run_core.specs.Works.{KeepsWork};
     ghost use Rattle.run_core.specs.WhatIsOut.{OutAfter, TakenConflictsOnlyExempt};
@@ -84,7 +85,7 @@ impl<'g> Core<'g> {
         if let Some(lock) = busy_lock(graph, i, &self.holders) {
             return Finding::Busy(Thing::Lock(lock));
         }
-        match busy_column(graph, i, &self.columns) {
+        match busy_column(graph, i, &self.columns.homes) {
             Some(column) => Finding::Busy(Thing::Column(column)),
             None => Finding::Free,
         }

@@ -6,7 +6,7 @@ ghost use Rattle.graph_terms.specs.Graph.{never_comes};
 ghost use Rattle.graph_terms.specs.declared.limits.TheConstants.{MAX_LINES_OF_THREE};
 ghost use Rattle.run_state.specs.Run.{ended, stage_at, stage_ended};
 ghost use Rattle.run_core.specs.Counts.{has_stage};
-ghost use Rattle.run_core.specs.Kept.{shown_stage};
+ghost use Rattle.run_lists.specs.Stages.{shown_stage};
 
 use crate::run::Core;
 use graph_model::graph::Graph;

@@ -2,7 +2,7 @@
 
 use crate::run::Core;
 use run_parts::{Issue, Progress};
-use run_state::laws::{issue_keeps_rest, left_below_need, stage_leaves};
+use run_state::laws::{issue_keeps_sharing, left_below_need};
 
 impl<'g> Core<'g> {
     ghost use Rattle.run_core.specs.Core.{slots_given};
@@ -22,8 +22,7 @@ impl<'g> Core<'g> {
         ensures out { SameOut self.old self.new }
         ensures slots { slots_given self.new ≡ slots_given self.old }
     {
-        issue_keeps_rest();
-        stage_leaves();
+        issue_keeps_sharing();
         self.events.holds_a_map();
         let next = self.events.issued();
         if next as usize == self.stages.len() {

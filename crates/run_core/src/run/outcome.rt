@@ -7,12 +7,10 @@ ghost use Rattle.event_table.specs.EventMap.{answer};
 ghost use Rattle.event_table.specs.declared.handle.Handle.{Handle as TheHandle};
 ghost use Rattle.run_state.specs.Run.{end_so_far, stage_at};
 ghost use Rattle.graph_terms.specs.Graph.{verb_at};
-ghost use Rattle.run_core.specs.Kept.{shown_stage};
+ghost use Rattle.run_lists.specs.Stages.{shown_stage};
 ghost use Rattle.run_core.specs.Answers.{answer_shown, phase_for, phase_of_line, AsksHandles};
 
-use crate::events::LineEvents;
 use crate::run::Core;
-use crate::sources::end_of;
 use graph_meaning::laws::sections_never_overlap;
 use graph_model::graph::Graph;
 use graph_terms::limits::MAX_LINES_OF_THREE;
@@ -20,6 +18,8 @@ use graph_terms::lists::{AnswerList, EndList, LineList, ValueList};
 use graph_terms::outcome::{Answer, End, Outcome};
 use graph_terms::verb::Verb;
 use index_spaces::room::push_within;
+use run_lists::events::LineEvents;
+use run_lists::sources::end_of;
 use run_parts::Progress;
 use run_state::laws::{clock_is_small, quiet_gives_outcome, slots_are_by_times};
 

@@ -1,19 +1,14 @@
 //! Lines are put back, and those that waited for them are woken.
 
-ghost use Rattle.std.specs.Prelude.{◌≡◌, ◌≢◌, ◌<◌, ◌⊎◌, ℕ, length, Some, None, slice_get, slice_index_or, IsSome};
-ghost use Rattle.index_spaces.specs.Column.{ColumnValue};
-ghost use Rattle.index_spaces.specs.Held.{held_at};
-ghost use Rattle.graph_terms.specs.Graph.{columns as graph_columns};
+ghost use Rattle.std.specs.Prelude.{◌≡◌, ◌≢◌, ◌<◌, length, Contains};
 ghost use Rattle.graph_terms.specs.declared.outcome.End.TheVariants.{Cancelled};
-ghost use Rattle.run_state.specs.Sound.{AccessesColumn};
-ghost use Rattle.run_state.specs.WholeLine.{all_home, columns_for, values_with, arrival_for};
-ghost use Rattle.run_core.specs.Works.{cells_in};
-ghost use Rattle.run_core.specs.Kept.{places_of};
+ghost use Rattle.graph_terms.specs.declared.verb.Access.{Access as TheAccess};
+ghost use Rattle.graph_terms.specs.Access.{accesses};
+ghost use Rattle.graph_terms.specs.Graph.{columns as graph_columns};
+ghost use Rattle.lent_columns.specs.Moved.{MayGive, AreGiven};
+ghost use Rattle.run_state.specs.WholeLine.{values_with, arrival_for};
 ghost use Rattle.run_core.specs.Steps.{fate_for};
 
-use crate::columns::{Columns, give_columns};
-use crate::holders::free;
-use crate::phases::arrive;
 use crate::run::Core;
 use crate::work::Finished;
 use event_table::{Fate, Handle};
@@ -21,8 +16,13 @@ use graph_model::graph::Graph;
 use graph_terms::outcome::End;
 use index_spaces::held::Held;
 use index_spaces::room::push_within;
+use run_lists::columns::{Columns, give_columns};
+use run_lists::holders::free;
+use run_lists::phases::arrive;
 use run_parts::Progress;
-use run_state::laws::{put_back_keeps_rest, put_back_leaves};
+use run_state::laws::{
+    put_back_keeps_sharing, put_back_leaves_end, put_back_leaves_sight, sight_gives_cells,
+};
 
 impl<'g> Core<'g> {
     ghost use Rattle.std.specs.Prelude.{◌≡◌, ◌≢◌, ℕ, ◌<◌, [], length, slice_get, IfSome, IfNone};
@@ -41,8 +41,10 @@ impl<'g> Core<'g> {
         ensures out { OneMoreOut self.new self.old finished.line }
         ensures slots { slots_given self.new ≡ slots_given self.old }
     {
-        put_back_keeps_rest();
-        put_back_leaves();
+        put_back_keeps_sharing();
+        put_back_leaves_end();
+        put_back_leaves_sight();
+        sight_gives_cells();
         let (line, end, held) = finished.into_parts();
         let graph = self.checked.graph();
         settle(graph, line, end, held, &mut self.columns, &mut self.values);
@@ -82,16 +84,11 @@ fn settle(
     values: &mut Vec<u64>,
 )
     requires known { line < length graph.now.lines }
-    requires each { (length columns.old.homes ≡ length (graph_columns graph.now))
-        × (length columns.old.takers.items ≡ length (graph_columns graph.now)) × (length values.old.items ≡ length graph.now.lines) }
-    requires out { end ≢ Cancelled → (c : ℕ) → AccessesColumn graph.now line c → slice_get columns.old.homes c ≡ Some None }
-    requires has { end ≢ Cancelled → (c : ℕ) → AccessesColumn graph.now line c → IsSome (held_at held c) }
-    ensures each { (length columns.new.homes ≡ length (graph_columns graph.now))
-        × (length columns.new.takers.items ≡ length (graph_columns graph.now)) }
-    ensures places { places_of columns.new.homes columns.new.takers.items ≡ all_home (places_of columns.old.homes columns.old.takers.items)
-        (cells_in held) (columns_for graph.now line end) }
-    ensures kept { (c : ℕ) (x : ColumnValue) → slice_index_or columns.new.homes c None ≡ Some x
-        → (slice_index_or columns.old.homes c None ≡ Some x) ⊎ (held_at held c ≡ Some x) }
+    requires each { (length columns.old.homes.columns ≡ length (graph_columns graph.now)) × (length values.old.items ≡ length graph.now.lines) }
+    requires may { end ≢ Cancelled → (a : TheAccess) → Contains (accesses graph.now line) a → MayGive a columns.old.homes held }
+    ensures given { end ≢ Cancelled → AreGiven graph.now line held columns.old.homes columns.new.homes }
+    ensures cancelled { end ≡ Cancelled → columns.new.homes ≡ columns.old.homes }
+    ensures takers { columns.new.takers.items ≡ columns.old.takers.items }
     ensures values { values.new.items ≡ values_with values.old.items (arrival_for graph.now line end) }
 {
     if end == End::Cancelled {

@@ -3,11 +3,11 @@
 ghost use Rattle.std.specs.Prelude.{◌≡◌};
 ghost use Rattle.run_core.specs.Resting.{core_by, RestsBy};
 
-use crate::columns::Columns;
-use crate::events::LineEvents;
-use crate::holders::Holders;
 use crate::run::Core;
 use checked_graph::Checked;
+use run_lists::columns::Columns;
+use run_lists::events::LineEvents;
+use run_lists::holders::Holders;
 use run_parts::{OutcomeRoom, Progress};
 
 /// What a core has besides the borrow of its graph.

@@ -1,6 +1,6 @@
 //! A core that goes on from a state.
 
-ghost use Rattle.std.specs.Prelude.{◌≡◌, ◌<◌, ◌≤◌, ◌+◌, ℕ, length, vec_len, map, cond, true, false, IfSome, IfNone, Some, slice_get, slice_set};
+ghost use Rattle.std.specs.Prelude.{◌≡◌, ◌<◌, ◌≤◌, ◌+◌, ℕ, [], length, vec_len, map, cond, true, false, IfSome, IfNone, Some, slice_get, slice_set};
 ghost use Rattle.std.specs.Vec.{vec_capacity};
 ghost use Rattle.graph_terms.specs.declared.outcome.End.TheVariants.{Done};
 ghost use Rattle.basics.specs.Lists.{count_below};
@@ -9,13 +9,9 @@ ghost use Rattle.graph_terms.specs.Reservations.{Releases};
 ghost use Rattle.run_state.specs.Run.{is_listed, list_at};
 ghost use Rattle.run_parts.specs.declared.states.LineState.{LineState as TheState};
 ghost use Rattle.run_parts.specs.declared.answers.Stage.{Stage as TheStage};
-ghost use Rattle.run_core.specs.Holders.{holders_by, AreHeld};
+ghost use Rattle.run_lists.specs.Holders.{holders_by, AreHeld};
 ghost use Rattle.run_core.specs.Resumed.{progress_for, stage_is_over, over_at, value_or_zero, HoldsNow, AreBeside, FoundBelow};
 
-use crate::columns::Columns;
-use crate::events::{LineEvents, handles_of};
-use crate::holders::{Holders, hold};
-use crate::lists::filled_within;
 use crate::run::Core;
 use event_table::EventTable;
 use event_table::limits::MAX_SLOTS;
@@ -26,9 +22,14 @@ use graph_terms::lists::ValueList;
 use graph_terms::outcome::End;
 use graph_terms::verb::Verb;
 use index_spaces::room::push_within;
+use lent_columns::shared_homes::SharedHomes;
 use line_effects::homes::Homes;
-use run_parts::{LineState, Progress, RunParts, RunRoom, Stage, StateList};
-use run_state::laws::{start_is_at_rest, start_is_sound};
+use run_lists::columns::Columns;
+use run_lists::events::{LineEvents, handles_of};
+use run_lists::holders::{Holders, hold};
+use run_lists::lists::filled_within;
+use run_parts::{LineState, OutcomeRoom, Progress, RunParts, RunRoom, Stage, StateList};
+use run_state::laws::{sharing_starts_at_rest, start_is_sound};
 
 /// How far a line has come, as a core keeps it.
 #[tactic(auto, unfolding(crate::specs::Resumed::progress_by))]
@@ -213,6 +214,21 @@ fn holders_of(graph: &Graph, lines: &[LineState], mut holders: Holders) -> Holde
     holders
 }
 
+/// Room for the outcome, with a list of phases that was read in the place of that for the phases: its pages
+/// are there.
+fn room_with(room: OutcomeRoom, mut phases: Vec<Option<u64>>) -> OutcomeRoom
+    ensures ends { (result.ends.items ≡ room.ends.items) × (vec_capacity result.ends ≡ vec_capacity room.ends) }
+    ensures answers { (result.answers.items ≡ room.answers.items) × (vec_capacity result.answers ≡ vec_capacity room.answers) }
+    ensures phases { (result.phases.items ≡ []) × (vec_len phases ≤ vec_capacity result.phases) }
+{
+    phases.clear();
+    OutcomeRoom {
+        ends: room.ends,
+        answers: room.answers,
+        phases,
+    }
+}
+
 impl<'g> Core<'g> {
     ghost use Rattle.std.specs.Prelude.{◌≡◌, ◌≤◌, ℕ, List, [], length};
     ghost use Rattle.event_table.specs.declared.handle.Handle.{Handle as TheHandle};
@@ -234,7 +250,7 @@ impl<'g> Core<'g> {
             → InState parts.entry.checked.now.graph run handles parts.entry.table result }
     {
         start_is_sound();
-        start_is_at_rest();
+        sharing_starts_at_rest();
         needs_are_one();
         let RunParts {
             checked,
@@ -252,6 +268,7 @@ impl<'g> Core<'g> {
             holding,
             trace,
             takers,
+            lent,
             held,
             outcome,
         } = room;
@@ -266,13 +283,13 @@ impl<'g> Core<'g> {
             stages: stages_of(items, stages),
             events: LineEvents::of_free(table, handles_of(items, handles), busy, lines),
             columns: Columns {
-                homes,
+                homes: SharedHomes::of(homes, lent, columns),
                 takers: filled_within(takers, 0, columns as usize),
             },
             values: values_of(phases.items.as_slice(), values),
             holders: holders_of(graph, items, nobody),
             trace: trace_of(items, trace),
-            room: outcome,
+            room: room_with(outcome, phases.items),
             hosted: false,
         }
     }
@@ -318,6 +335,7 @@ impl<'g> Core<'g> {
                 holding: holders.holding,
                 trace,
                 takers: columns.takers,
+                lent: columns.homes.into_room(),
                 held: holders.held,
                 outcome: room,
             },

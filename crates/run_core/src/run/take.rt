@@ -1,17 +1,19 @@
 //! Lines are taken.
 
-use crate::columns::take_columns;
-use crate::holders::hold;
 use crate::run::Core;
 use crate::work::Work;
 use index_spaces::held::Held;
+use run_lists::columns::take_columns;
+use run_lists::holders::hold;
 use run_parts::Progress;
-use run_state::laws::{claim_of_cancelled_keeps_rest, stage_leaves, take_keeps_rest, take_leaves};
+use run_state::laws::{claim_of_cancelled_keeps_sharing, take_keeps_sharing};
 
 impl<'g> Core<'g> {
     ghost use Rattle.std.specs.Prelude.{◌≡◌, ℕ, ◌<◌, true, false, length};
     ghost use Rattle.run_state.specs.Quiet.{kept_cancels};
-    ghost use Rattle.run_core.specs.Steps.{Takes, StandsBy, IsDue, IsLeastLeft, HasLock, HasColumns};
+    ghost use Rattle.run_lists.specs.Sources.{IsLeastLeft};
+    ghost use Rattle.run_lists.specs.Holders.{HasLock};
+    ghost use Rattle.run_core.specs.Steps.{Takes, StandsBy, IsDue, HasColumns};
     ghost use Rattle.run_core.specs.Works.{KeepsWork};
 
     /// Places a line on the handle of the least source that it waits for.
@@ -32,25 +34,24 @@ impl<'g> Core<'g> {
         ensures taken { Takes self.old self.new result }
         ensures works { (k : ℕ) → KeepsWork self.old self.new k }
     {
-        claim_of_cancelled_keeps_rest();
-        stage_leaves();
+        claim_of_cancelled_keeps_sharing();
         self.stages[i as usize] = Progress::Out;
         Work::of(i, true, Held::none())
     }
 
-    /// Takes a line with its columns and its reservation.
+    /// Takes a line with its columns, or shares of them, and its reservation.
     pub(crate) fn take(&mut self, i: u32) -> Work
         requires due { IsDue self.old.graph self.old.run i }
         requires runs { kept_cancels self.old.graph self.old.run.stages i ≡ false }
         requires lock { HasLock self.old.graph self.old.run.holders i }
-        requires columns { HasColumns self.old.graph self.old.run.places i }
+        requires columns { HasColumns self.old.graph self.old.run i }
         ensures line { result.line ≡ i }
         ensures taken { Takes self.old self.new result }
         ensures works { (k : ℕ) → KeepsWork self.old self.new k }
     {
-        take_keeps_rest();
-        take_leaves();
+        take_keeps_sharing();
         let graph = self.checked.graph();
+        let _ = graph.lines();
         self.stages[i as usize] = Progress::Out;
         hold(graph, i, &mut self.holders);
         let held = take_columns(graph, i, &mut self.columns);

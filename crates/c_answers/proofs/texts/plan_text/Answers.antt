@@ -14,4 +14,4 @@ returns-in-Ok-put_timeline c =
     let p = c.in-Ok.ensures in
     let empty : c.new-sink.result.taken ≡ [] = ap (λ (s : TextSinkValue). s.taken) c.new-sink.ensures in
     let items : c.into_bytes.result.items ≡ timeline_text graph t = c.into_bytes.ensures ∙ (taken_is _ _ (timeline_text c.graph.result.now t) empty c.in-Ok-put_timeline.ensures.taken ∙ ap (λ (g : GraphValue). timeline_text g t) c.graph.ensures.graph) in
-    subst (IsTimelineText c.args.processors graph) (sym items) (timeline_certified graph c.args.processors _ t refl p.plan p.valid p.greedy p.length p.total p.critical p.critical_cost p.at_least p.at_most)
+    subst (IsTimelineText c.args.processors graph) (sym items) (timeline_certified graph c.args.processors t p.plan p.valid p.greedy p.length p.total p.critical p.critical_cost p.at_least p.at_most)

@@ -9,4 +9,4 @@ pub returns : goal.returns
 returns c =
     let r = c.put_place.result in
     rw c.in-Some.is
-    (then_puts r _ _ _ (shown c.args.word.now.word.now) _ c.in_ok-put_shown.ensures (then_puts r _ _ _ (codes " is given by line ") (place_text (contents c.args.lines.now) c.in-Some.place) c.in_ok-put.ensures c.put_place.ensures))
+    (then_puts r _ _ _ (shown c.args.word.now.word.now) _ c.in_ok-put_shown.ensures (then_puts r _ _ _ (codes " is given by line ") (place_text (contents c.args.lines.now) c.args.word.now.word.now c.in-Some.place) c.in_ok-put.ensures c.put_place.ensures))

@@ -52,7 +52,8 @@ returns c =
     (then_puts r _ _ _ (ended_text g ls ended) _ (put_as _ _ _ _ (ap (λ (q : List (List ℕ)). ended_text g (record { bytes = c.args.lines.now.bytes; lines = q; all = all }) ended) (sym c.requires)) c.in_ok-put_ended.ensures)
     (then_puts r _ _ _ (names_text ps named more ++ space_text ps space) _ c.in_ok-put_names.ensures
     (then_puts r _ _ _ (columns_text g ws why mark) _ (subst (λ w. c.put_columns.new.text ≡ c.put_names.new.text ++ columns_text g (contents w) why mark) c.as_slice-10.ensures.value c.in_ok-put_columns.ensures)
-    (puts_as r _ _ _ _ (ap (λ l. advice_text g why l mark) c.line_at-line.ensures) c.put_advice.ensures)))))))
+    (puts_as r _ _ _ _ (ap (λ l. advice_text g why l ws mark) c.line_at-line.ensures)
+    (subst (λ w. OnOk r (new ≡ c.put_columns.new.text ++ advice_text g why c.line_at-line.result.now (contents w) mark)) c.as_slice-11.ensures.value c.put_advice.ensures))))))))
 
 pub space_for-space-requires : goal.space_for-space-requires
 space_for-space-requires c = given_size c.as_slice-6.result.now c.args.pieces.now (ap contents c.as_slice-6.ensures.value ∙ c.in_ok-names.ensures)

@@ -1,27 +1,8 @@
-use Rattle.std.proofs.Common.{refl, inr}
-use Rattle.realm_timeline.specs.Text.{timeline_text}
-use Rattle.program_io.proofs.Public.{written_then_flushed, stopped_is_broken}
-use Rattle.graph_answers.proofs.Timelines.{timeline_certified, wrote_timeline, stopped_timeline}
+use Rattle.graph_answers.proofs.Timelines.{answer_asked}
 use Rattle.graph_answers.proofs.planning.plan_graph.Goals as goal
 
-pub returns-in-Ok-put_timeline-clause-done : goal.returns-in-Ok-put_timeline-clause-done
-returns-in-Ok-put_timeline-clause-done g c =
-    let graph = c.args.checked.now.graph in
-    let t = c.in-Ok.timeline in
-    let p = c.in-Ok.ensures in
-    inr (
-      timeline_text graph t,
-      timeline_certified graph c.max.result _ t c.max.ensures p.plan p.valid p.greedy p.length p.total p.critical p.critical_cost p.at_least p.at_most,
-      written_then_flushed _ _ _ _ c.flush.result (timeline_text graph t) (wrote_timeline _ _ c.graph.result.now graph t c.graph.ensures.graph c.in-Ok-put_timeline.ensures) c.flush.ensures,
-    )
+pub returns-then-request-clause-done : goal.returns-then-request-clause-done
+returns-then-request-clause-done g c = answer_asked c.args.request.now c.args.checked.now.graph _ c.max-processors.result _ _ c.plan_pieces.result c.if-request.true c.max-processors.ensures c.plan_pieces.ensures.done
 
-pub returns-clause-done : goal.returns-clause-done
-returns-clause-done g c =
-    let graph = c.args.checked.now.graph in
-    let t = c.in-Ok.timeline in
-    let p = c.in-Ok.ensures in
-    inr (
-      timeline_text graph t,
-      timeline_certified graph c.max.result _ t c.max.ensures p.plan p.valid p.greedy p.length p.total p.critical p.critical_cost p.at_least p.at_most,
-      inr (refl, stopped_is_broken _ _ (timeline_text graph t) (stopped_timeline _ _ c.graph.result.now graph t c.graph.ensures.graph c.in-Err.ensures)),
-    )
+pub returns-else-request-clause-done : goal.returns-else-request-clause-done
+returns-else-request-clause-done g c = answer_asked c.args.request.now c.args.checked.now.graph _ c.max-processors.result _ _ c.plan_lines.result c.if-request.false c.max-processors.ensures c.plan_lines.ensures.done

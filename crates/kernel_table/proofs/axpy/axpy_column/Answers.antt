@@ -10,5 +10,5 @@ unfolding Makes
 returns c = λ y. record {
   is_space = rw c.space.ensures at c.write_runs.ensures.is_space;
   written = λ cells sees. written_as _ _ _ _ _ (rw c.space.ensures at c.write_runs.ensures.written) (λ p h.
-      ap (λ v. wrapped (cell_of c.args.before p + wrapped (c.args.factor * v))) (sees.0 c.source-from.result.now c.source-from.ensures.column c.source-from.ensures.is_space p h));
+      ap (λ v. wrapped (cell_of c.args.before p + wrapped (c.args.factor * v))) (sees.0 c.source-from.result c.source-from.ensures.column c.source-from.ensures.is_space p h));
 }

@@ -11,8 +11,8 @@ use Rattle.kernel_table.proofs.dot.dot_column.Goals as goal
 pub returns : goal.returns
 unfolding Makes
 returns c = λ z.
-    let one = c.source-one.result.now in
-    let other = c.source-other.result.now in
+    let one = c.source-one.result in
+    let other = c.source-other.result in
     let space = space_at c.args.graph.now c.args.s in
     let product : c.dot_points-value.result ≡ wrapped_sum (λ q. cell_of one q * cell_of other q) (points space) = rw c.space.ensures at c.dot_points-value.ensures in
     record {

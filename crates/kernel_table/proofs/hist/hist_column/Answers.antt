@@ -11,7 +11,7 @@ use Rattle.kernel_table.proofs.hist.hist_column.Goals as goal
 pub returns : goal.returns
 unfolding Makes
 returns c = λ y.
-    let from = c.source.result.now in
+    let from = c.source.result in
     let space = space_at c.args.graph.now c.args.s in
     let bins = space_at c.args.graph.now c.args.t in
     record {

@@ -12,7 +12,7 @@ use Rattle.kernel_table.proofs.scan.scan_column.Goals as goal
 pub returns : goal.returns
 unfolding Makes
 returns c = λ y.
-    let from = c.source-from.result.now in
+    let from = c.source-from.result in
     let space = space_at c.args.graph.now c.args.s in
     record {
       is_space = rw c.space.ensures at c.write_runs.ensures.is_space;

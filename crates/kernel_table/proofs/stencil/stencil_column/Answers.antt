@@ -13,6 +13,6 @@ unfolding Makes
 returns c = λ y. record {
   is_space = rw c.space.ensures at c.write_runs.ensures.is_space;
   written = λ cells sees. written_as _ _ _ _ _ (rw (c.space-read.ensures, c.space.ensures) at c.write_runs.ensures.written) (λ p h.
-      ap wrapped (filtered_agree (cell_of c.source-from.result.now) (cells c.args.x) (has_point (space_at c.args.graph.now c.args.r)) (around p)
-      (sees.0 c.source-from.result.now c.source-from.ensures.column c.source-from.ensures.is_space)));
+      ap wrapped (filtered_agree (cell_of c.source-from.result) (cells c.args.x) (has_point (space_at c.args.graph.now c.args.r)) (around p)
+      (sees.0 c.source-from.result c.source-from.ensures.column c.source-from.ensures.is_space)));
 }

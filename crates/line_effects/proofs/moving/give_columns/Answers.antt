@@ -4,7 +4,7 @@ use Rattle.line_effects.proofs.moving.give_columns.Goals as goal
 use Rattle.line_effects.proofs.moving.give_columns.Goals.{in-Some, in_default}
 
 pub loop-k-init : goal.loop-k-init
-loop-k-init c = record { given = given_none c.args.graph.now c.args.line c.args.held c.args.homes.now }
+loop-k-init c = record { given = given_none c.args.graph.now c.args.line c.args.held c.args.homes.now c.requires.own }
 
 pub loop-k-preserved : goal.loop-k-preserved
 loop-k-preserved c =

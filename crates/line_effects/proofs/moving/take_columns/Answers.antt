@@ -33,7 +33,7 @@ loop-k-preserved c =
           record {
             taken = subst (λ h. after h c.match-moved_column.held) (sym w.homes-is) (subst (after w.take_column.new.homes) (sym w.held-is)
                 (taken_one c.columns_differ.ensures g c.lines.ensures.is_graph i k w.in-Some.c c.args.homes.now c.loop-k.homes w.take_column.new.homes c.loop-k.held w.take_column.new.held t at near home
-                w.take_column.ensures.homes w.take_column.ensures.held w.take_column.ensures.number));
+                w.take_column.ensures.homes w.take_column.ensures.held w.take_column.ensures.own w.take_column.ensures.number));
           })
       | in_default w ↦ record {
         taken = subst (λ h. after h c.match-moved_column.held) (sym w.homes-is) (subst (after c.loop-k.homes) (sym w.held-is)

@@ -6,12 +6,12 @@ use Rattle.lock_engine.proofs.SeatFacts.{keeps_place}
 use Rattle.lock_engine.proofs.calls.issue.Goals as goal
 
 pub give_turn-requires-clause-turn : goal.give_turn-requires-clause-turn
-give_turn-requires-clause-turn g c = (Issue c.issue-answer.result, turn_issue c.args.seat.now.me.0 c.take_turn-core.new.seat.me.0 c.take_turn-core.result c.issue-answer.new.self c.issue-answer.result c.take_turn-core.ensures.view c.requires.idle.line c.issue-answer.ensures.answer c.issue-answer.ensures.out c.issue-answer.ensures.works)
+give_turn-requires-clause-turn g c = (Issue c.issue-answer.result, turn_issue c.args.seat.now.me.0 c.take_turn-core.new.seat.me.0 c.take_turn-core.result c.issue-answer.new.self c.issue-answer.result c.take_turn-core.ensures.view c.requires.idle.line (rw (c.deref_mut.ensures.value, c.core.view_is) at c.issue-answer.ensures.answer) (rw (c.deref_mut.ensures.value, c.core.view_is) at c.issue-answer.ensures.out) (rw (c.deref_mut.ensures.value, c.core.view_is) at c.issue-answer.ensures.works))
 
 pub returns-clause-place : goal.returns-clause-place
 returns-clause-place g c =
-    let turn = turn_issue c.args.seat.now.me.0 c.take_turn-core.new.seat.me.0 c.take_turn-core.result c.issue-answer.new.self c.issue-answer.result c.take_turn-core.ensures.view c.requires.idle.line c.issue-answer.ensures.answer c.issue-answer.ensures.out c.issue-answer.ensures.works in
+    let turn = turn_issue c.args.seat.now.me.0 c.take_turn-core.new.seat.me.0 c.take_turn-core.result c.issue-answer.new.self c.issue-answer.result c.take_turn-core.ensures.view c.requires.idle.line (rw (c.deref_mut.ensures.value, c.core.view_is) at c.issue-answer.ensures.answer) (rw (c.deref_mut.ensures.value, c.core.view_is) at c.issue-answer.ensures.out) (rw (c.deref_mut.ensures.value, c.core.view_is) at c.issue-answer.ensures.works) in
     keeps_place c.args.lock.now.table_id c.args.seat.now c.give_turn.new.seat c.take_turn-core.new.seat.me.0 c.take_turn-core.result c.issue-answer.new.self (Issue c.issue-answer.result) turn c.take_turn-core.ensures.view c.give_turn.ensures.view c.take_turn-core.ensures.graph c.give_turn.ensures.waiting
 
 pub returns-clause-idle : goal.returns-clause-idle
-returns-clause-idle g c = ap (λ (v : View). v.line) (c.give_turn.ensures.view (Issue c.issue-answer.result) (turn_issue c.args.seat.now.me.0 c.take_turn-core.new.seat.me.0 c.take_turn-core.result c.issue-answer.new.self c.issue-answer.result c.take_turn-core.ensures.view c.requires.idle.line c.issue-answer.ensures.answer c.issue-answer.ensures.out c.issue-answer.ensures.works))
+returns-clause-idle g c = ap (λ (v : View). v.line) (c.give_turn.ensures.view (Issue c.issue-answer.result) (turn_issue c.args.seat.now.me.0 c.take_turn-core.new.seat.me.0 c.take_turn-core.result c.issue-answer.new.self c.issue-answer.result c.take_turn-core.ensures.view c.requires.idle.line (rw (c.deref_mut.ensures.value, c.core.view_is) at c.issue-answer.ensures.answer) (rw (c.deref_mut.ensures.value, c.core.view_is) at c.issue-answer.ensures.out) (rw (c.deref_mut.ensures.value, c.core.view_is) at c.issue-answer.ensures.works)))

@@ -15,14 +15,14 @@ unreachable-requires c =
 pub returns-clause-graph : goal.returns-clause-graph
 returns-clause-graph c =
     let e = closes c.args.table.shared.key c.take_seat-seat.result.id c.take_seat-seat.result.me.0 (view_of c.args.badge) (slots_items c.close_with-closed.result.words) (slots_items c.close_with-closed.result.slots) c.take.result c.take_seat-seat.ensures.view c.requires.all c.requires.idle c.requires.resting.turn c.close_with-closed.ensures.values.2 c.take.ensures.value in
-    ap (λ (x : CoreValue). x.graph) (same_Some c.in-Some.core e.0 (sym c.in-Some.is ∙ e.3)) ∙ e.1
+    ap (λ (x : CoreValue). x.graph) (c.into_core.ensures ∙ same_Some c.in-Some.core e.0 (sym c.in-Some.is ∙ e.3)) ∙ e.1
 
 pub returns-clause-unhosted : goal.returns-clause-unhosted
 returns-clause-unhosted c =
     let e = closes c.args.table.shared.key c.take_seat-seat.result.id c.take_seat-seat.result.me.0 (view_of c.args.badge) (slots_items c.close_with-closed.result.words) (slots_items c.close_with-closed.result.slots) c.take.result c.take_seat-seat.ensures.view c.requires.all c.requires.idle c.requires.resting.turn c.close_with-closed.ensures.values.2 c.take.ensures.value in
-    ap (λ (x : CoreValue). x.hosted) (same_Some c.in-Some.core e.0 (sym c.in-Some.is ∙ e.3)) ∙ e.4
+    ap (λ (x : CoreValue). x.hosted) (c.into_core.ensures ∙ same_Some c.in-Some.core e.0 (sym c.in-Some.is ∙ e.3)) ∙ e.4
 
 pub returns-clause-nothing_out : goal.returns-clause-nothing_out
 returns-clause-nothing_out c =
     let e = closes c.args.table.shared.key c.take_seat-seat.result.id c.take_seat-seat.result.me.0 (view_of c.args.badge) (slots_items c.close_with-closed.result.words) (slots_items c.close_with-closed.result.slots) c.take.result c.take_seat-seat.ensures.view c.requires.all c.requires.idle c.requires.resting.turn c.close_with-closed.ensures.values.2 c.take.ensures.value in
-    subst NothingOut (sym (same_Some c.in-Some.core e.0 (sym c.in-Some.is ∙ e.3))) e.2
+    subst NothingOut (sym (c.into_core.ensures ∙ same_Some c.in-Some.core e.0 (sym c.in-Some.is ∙ e.3))) e.2

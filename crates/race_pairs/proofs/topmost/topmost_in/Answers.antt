@@ -1,12 +1,11 @@
-use Rattle.std.proofs.Common.{inl, inr, length, arith}
-use Rattle.graph_meaning.specs.Rules.{RaceAt}
+use Rattle.std.proofs.Common.{length, arith}
 use Rattle.race_pairs.specs.Topmost.{races_with}
 use Rattle.sweep_base.proofs.Public.{blocks_fail, blocks_more, some_of, none_of}
-use Rattle.race_pairs.proofs.Freeing.{later_above, later_beyond, all_later}
+use Rattle.race_pairs.proofs.Freeing.{later_beyond, all_later}
 use Rattle.race_pairs.proofs.topmost.topmost_in.Goals as goal
 
 pub loop-start-init : goal.loop-start-init
-loop-start-init c = record { begins = omega arith; before = later_above c.args.graph.now c.args.first c.requires.above }
+loop-start-init c = record { begins = c.requires.begins; before = c.requires.free }
 
 pub returns-in-Some : goal.returns-in-Some
 returns-in-Some c =

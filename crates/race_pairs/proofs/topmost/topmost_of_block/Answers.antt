@@ -1,10 +1,10 @@
-use Rattle.std.proofs.Common.{◌≡◌, ◌+◌, ◌<◌, ◌≤◌, ◌⊎◌, ℕ, inl, inr, length, arith, sym, subst}
+use Rattle.std.proofs.Common.{◌≡◌, ◌+◌, ◌≤◌, ◌⊎◌, ℕ, inl, inr, length, arith, sym, subst}
 use Rattle.std.proofs.lemmas.Bool.{cases_lt}
 use Rattle.cycle_search.specs.Paths.{EdgesBetween}
 use Rattle.sweep_base.specs.BlockRules.{IsLeast, IsLowest, NoneLow}
 use Rattle.race_pairs.specs.Topmost.{races_with}
 use Rattle.sweep_base.proofs.Public.{least_none, least_keep, least_take, least_fails, least_holds}
-use Rattle.race_pairs.proofs.Freeing.{later_beyond, least_above, unmarked_holds}
+use Rattle.race_pairs.proofs.Freeing.{later_beyond, least_above}
 use Rattle.race_pairs.proofs.topmost.topmost_of_block.Goals as goal
 use Rattle.race_pairs.proofs.topmost.topmost_of_block.Goals.{in-Some, in_default}
 
@@ -27,18 +27,6 @@ loop-line-preserved c =
             (least_keep R start c.loop-line.limit c.loop-line.found n inv (subst (λ z. NoneLow R z c.loop-line.limit n) c.in_ok-rivals.ensures.first w.in_default.ensures)));
       }
     ]
-
-pub returns-then-not-is_any_noted : goal.returns-then-not-is_any_noted
-returns-then-not-is_any_noted c =
-    let g = c.args.graph.now in
-    let start = c.args.start in
-    let end = c.min-end.result in
-    let between : EdgesBetween g = λ e k. c.edges_between_lines.ensures g e c.lines-lines.ensures.is_graph k in
-    let all : (length g.lines ≤ end) ⊎ (start + 64 ≤ end) = elim (cases_lt c.lines-lines.result (start + 64)) [
-      | inl l ↦ inl (omega (arith, c.min-end.ensures, l, c.lines-lines.ensures.number))
-      | inr up ↦ inr (omega (arith, c.min-end.ensures, up))
-    ] in
-    unmarked_holds g c.args.marks.now start end c.requires.marked between all (c.is_any_noted.ensures c.if-not-is_any_noted.true)
 
 pub returns-then-limit-lt64 : goal.returns-then-limit-lt64
 returns-then-limit-lt64 c =

@@ -27,7 +27,7 @@ pub loop-other-init : goal.loop-other-init
 loop-other-init c = record {
   size = length-set c.args.hard.now.items c.args.class c.args.place ∙ c.requires.size;
   hard = λ g end a h key has k. hard_set g c.args.table.now c.args.hard.now.items end c.args.class c.args.place c.requires.class h
-      (λ b kb. subst (λ (z : Access). HasHard g (slice_index c.args.table.now.lines.items c.args.place) z.column z.space) (same_Some a b (sym key ∙ kb)) has) k;
+      (λ b kb. subst (λ (z : Access). HasHard g c.args.table.now.limit (slice_index c.args.table.now.lines.items c.args.place) z.column z.space) (same_Some a b (sym key ∙ kb)) has) k;
 }
 
 pub loop-other-preserved : goal.loop-other-preserved
@@ -45,7 +45,7 @@ loop-other-preserved c =
             size = ap length same ∙ (length-set c.loop-other.hard.items d c.args.place ∙ c.loop-other.invariant.size);
             hard = λ g end a h key has k. subst (λ xs. IsHardTo g t xs end) (sym same)
                 (hard_set g t c.loop-other.hard.items end d c.args.place known h
-                (λ b kb. same_use g (slice_index t.lines.items c.args.place) a b
+                (λ b kb. same_use g t.limit (slice_index t.lines.items c.args.place) a b
                 (ap (λ (z : Access). z.column) (key_read keys d c.index-in-loop-other.result.now b known c.index-in-loop-other.ensures kb) ∙ (use'.0 ∙ ap (λ (z : Access). z.column) (sym (key_read keys c.args.class c.index-key.result.now a c.requires.class c.index-key.ensures key))))
                 (ap (λ (z : Access). z.space) (key_read keys d c.index-in-loop-other.result.now b known c.index-in-loop-other.ensures kb) ∙ (use'.1 ∙ ap (λ (z : Access). z.space) (sym (key_read keys c.args.class c.index-key.result.now a c.requires.class c.index-key.ensures key)))) has)
                 (c.loop-other.invariant.hard g end a h key has k));

@@ -8,6 +8,6 @@ use Rattle.race_sweeps.proofs.unexempt.harden.Given as goal
 abbrev pub invariant-loop-other : goal.invariant-loop-other
 invariant-loop-other l = record {
   size : length l.hard.items ≡ length l.table.keys.items;
-  hard : (g : GraphValue) (end : ℕ) (a : Access) → l.place < end → slice_get l.table.keys.items l.class ≡ Some a → HasHard g (slice_index l.table.lines.items l.place) a.column a.space
+  hard : (g : GraphValue) (end : ℕ) (a : Access) → l.place < end → slice_get l.table.keys.items l.class ≡ Some a → HasHard g l.table.limit (slice_index l.table.lines.items l.place) a.column a.space
       → IsHardTo g l.table l.fn.hard.items end → IsHardTo g l.table l.hard.items end;
 }

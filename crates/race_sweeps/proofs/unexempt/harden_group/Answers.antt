@@ -25,6 +25,6 @@ returns-then-is_hard-clause-hard c end within listed h =
     let at : place ≡ place_at t.sites.items m = get_or_read t.sites.items m place listed' c.index-place.ensures 0 in
     let low : place_at t.sites.items m < end = begin.before m some.0 in
     c.harden.ensures.hard g end key (omega arith) (slice_get_read keys (length keys) c.args.group.class key refl c.requires.group c.index-key.ensures)
-    (subst (λ z. HasHard g (slice_index lines z) key.column key.space) (sym at)
-    (member_hard g lines keys t.classes.items t.sites.items t.begins.items are m c.args.group.class key some.1 (slice_get_read keys (length keys) c.args.group.class key refl c.requires.group c.index-key.ensures)
+    (subst (λ z. HasHard g t.limit (slice_index lines z) key.column key.space) (sym at)
+    (member_hard g t.limit lines keys t.classes.items t.sites.items t.begins.items are m c.args.group.class key some.1 (slice_get_read keys (length keys) c.args.group.class key refl c.requires.group c.index-key.ensures)
     (subst (λ z. IsHard g (slice_index lines z) key.mode) at (subst (λ z. IsHard g z key.mode) (get_or_read lines place c.index-line.result.now (omega arith) c.index-line.ensures 0) (c.is_hard.ensures c.if-is_hard.true))))) h

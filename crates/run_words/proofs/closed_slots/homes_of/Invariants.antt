@@ -1,21 +1,19 @@
 use Rattle.std.proofs.Common.{◌≡◌, ◌<◌, ◌≤◌, ℕ, length}
-use mathlib.Core.Option.{some}
-use lib.ListN.{get_elem?}
 use Rattle.std.specs.Prelude.{Some, None, slice_get}
 use Rattle.std.specs.Slots.{slots_items, slots_len, slots_filled}
 use Rattle.graph_terms.specs.Graph.{columns}
 use Rattle.index_spaces.specs.Column.{ColumnValue}
-use Rattle.run_words.specs.declared.content.Content.TheVariants.{Cells}
-use Rattle.run_words.specs.Layout.{size_of, column_slot, slot_count}
+use Rattle.run_words.specs.Layout.{size_of, slot_count}
+use Rattle.run_words.specs.Lending.{LiesIn}
 use Rattle.run_words.specs.Emptying.{AreTaken}
 use Rattle.run_words.proofs.closed_slots.homes_of.Given as goal
 
 abbrev pub invariant-loop-c : goal.invariant-loop-c
 invariant-loop-c l = record {
   deep : slots_len l.closed.slots ≡ slot_count (size_of l.graph);
-  taken : AreTaken (size_of l.graph) (length l.graph.lines) l.c (slots_filled l.closed.slots);
+  taken : AreTaken (size_of l.graph) (length l.graph.lines) l.c 0 (slots_filled l.closed.slots);
   same : slots_items l.closed.slots ≡ slots_items l.initial.closed.slots;
   each : length l.homes ≡ length (columns l.graph);
-  home : (k : ℕ) (x : ColumnValue) → k < l.c → get_elem? (slots_items l.initial.closed.slots) (column_slot (size_of l.graph) k) ≡ some (Cells x) → slice_get l.homes k ≡ Some (Some x);
+  home : (k : ℕ) (x : ColumnValue) → k < l.c → LiesIn l.graph (slots_items l.initial.closed.slots) k x → slice_get l.homes k ≡ Some (Some x);
   out : (k : ℕ) → l.c ≤ k → k < length (columns l.graph) → slice_get l.homes k ≡ Some None;
 }

@@ -17,7 +17,7 @@ loop-line-preserved c =
       at = c.settle.ensures.at;
       kept = (λ h k. c.settle.ensures.kept.0 h (i.kept.0 h k), λ h f k. c.settle.ensures.kept.1 h f (i.kept.1 h f k));
       deep = o.2 ∙ i.deep;
-      taken = line_taken (size_of c.args.graph.now) c.loop-line.line 0 (slots_filled c.loop-line.closed.slots) (slots_filled c.take.new.self.slots) near o.1 i.taken;
+      taken = line_taken (size_of c.args.graph.now) c.loop-line.line 0 0 (slots_filled c.loop-line.closed.slots) (slots_filled c.take.new.self.slots) near o.1 i.taken;
       same = (o.0 ∙ i.same.0, o.3 ∙ i.same.1);
       settled = λ k x low at. elim (cases_eq k c.loop-line.line) [
         | inl same ↦ subst (IsSettled (lists c.settle.new.seat)) (one_content (slots_items c.args.closed.now.slots) c.loop-line.line c.take.result x (ap (λ s. get_elem? s c.loop-line.line) (sym i.same.0) ∙ c.take.ensures.value) (ap (get_elem? (slots_items c.args.closed.now.slots)) (sym same) ∙ at)) c.settle.ensures.settled

@@ -14,7 +14,7 @@ invariant-loop-line l = record {
   at : IsAt l.events l.seat;
   kept : Keeps (lists l.initial.seat) (lists l.seat);
   deep : slots_len l.closed.slots ≡ slot_count (size_of l.graph);
-  taken : AreTaken (size_of l.graph) l.line 0 (slots_filled l.closed.slots);
+  taken : AreTaken (size_of l.graph) l.line 0 0 (slots_filled l.closed.slots);
   same : (slots_items l.closed.slots ≡ slots_items l.initial.closed.slots) × (l.closed.words ≡ l.initial.closed.words);
   settled : (i : ℕ) (x : Content) → i < l.line → get_elem? (slots_items l.initial.closed.slots) (line_slot (size_of l.graph) i) ≡ some x → IsSettled (lists l.seat) x;
 }

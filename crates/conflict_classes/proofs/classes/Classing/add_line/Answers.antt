@@ -8,4 +8,4 @@ returns-clause-classes c =
     let s = c.add_accesses.new.self.classes in
     let all : c.len-end.result ≡ length s.of.items = omega (arith, c.len-end.ensures) in
     on_ok_weaker c.push.result
-    (λ ok. classes_next c.args.graph.now c.args.order.now s.keys.items s.of.items s.sites.items s.begins.items c.lines.ensures.is_graph c.args.place _ c.in_ok-add_accesses.ensures.classes (ok ∙ ap (λ n. s.begins.items ++ n ∷ []) all)) c.push.ensures.ok
+    (λ ok. classes_next c.args.graph.now s.limit c.args.order.now s.keys.items s.of.items s.sites.items s.begins.items c.lines.ensures.is_graph c.args.place _ c.in_ok-add_accesses.ensures.classes (ok ∙ ap (λ n. s.begins.items ++ n ∷ []) all)) c.push.ensures.ok

@@ -1,12 +1,9 @@
-use Rattle.std.proofs.Common.{◌∙◌, ap}
-use Rattle.basics.specs.Words.{contents}
-use Rattle.explain_text.specs.Named.{with_name}
-use Rattle.explain_text.proofs.NamedFacts.{name_put}
+use Rattle.std.proofs.Common.{sym, ◌∙◌}
+use Rattle.explain_text.proofs.NamedFacts.{name_is_kept}
 use Rattle.explain_text.proofs.told_names.NameList.add.Goals as goal
-use Rattle.explain_text.proofs.told_names.NameList.add.Goals.{in-Ok, in-Err}
 
-pub returns : goal.returns
-returns c = elim c.match-insert.branch [
-  | in-Ok w ↦ rw w.result-is (ap contents w.in-Ok.ensures.keys ∙ (name_put c.args.name c.self.inside.names.keys ∙ ap (λ ws. with_name ws c.args.name.now) c.self.view_is))
-  | in-Err w ↦ rw w.result-is tt
-]
+pub returns-then-is_at : goal.returns-then-is_at
+returns-then-is_at c = c.go_on.ensures ∙ name_is_kept c.args.self.now c.self.inside.next c.args.name.now (sym c.is_at.ensures ∙ c.if-is_at.true)
+
+pub returns-then-is_at-2 : goal.returns-then-is_at-2
+returns-then-is_at-2 c = name_is_kept c.args.self.now c.saturating_sub.result c.args.name.now (sym c.is_at-2.ensures ∙ c.if-is_at-2.true)

@@ -14,7 +14,7 @@ at_ok (Err x) P e h = absurd (true≢false e)
 
 pub returns-clause-ok : goal.returns-clause-ok
 returns-clause-ok c q =
-    beside_named c.self.inside.chains c.self.inside.others.entries c.insert.new.self.entries c.args.name q (Some c.args.found) (ap (λ (w : NamesValue). told w.chains c.args.name) c.self.view_is ∙ c.requires)
+    beside_named c.self.inside.chains c.self.inside.others.entries c.insert.new.self.entries c.args.name.now q (Some c.args.found) (ap (λ (w : NamesValue). told w.chains c.args.name.now) c.self.view_is ∙ c.requires)
     (λ p. (at_ok c.insert.result _ (sym c.is_err.ensures.value ∙ c.if-is_err.false) c.insert.ensures.updates).0 p
-    ∙ ap (λ b. cond b (Some c.args.found) (mapped c.self.inside.others.entries p)) (is_eq-slice_cmp c.args.name p))
-    ∙ ap (λ (w : NamesValue). cond (bytes_eq c.args.name q) (Some c.args.found) (named w q)) c.self.view_is
+    ∙ ap (λ b. cond b (Some c.args.found) (mapped c.self.inside.others.entries p)) (is_eq-slice_cmp c.args.name.now p))
+    ∙ ap (λ (w : NamesValue). cond (bytes_eq c.args.name.now q) (Some c.args.found) (named w q)) c.self.view_is

@@ -1,4 +1,4 @@
-use Rattle.std.proofs.Common.{◌<◌, length, ap, ◌∙◌, arith, lit<}
+use Rattle.std.proofs.Common.{◌<◌, ◌∷◌, ◌++◌, [], None, length, ap, ◌∙◌, arith, lit<}
 use Rattle.index_spaces.specs.Held.{held_at, entries}
 use Rattle.index_spaces.proofs.HeldFacts.{Pushed, pushed_entry, entries_length}
 use Rattle.index_spaces.proofs.held.Held.add.Goals as goal
@@ -10,14 +10,20 @@ push-requires c =
     let room : length c.self.inside.places.items < 4 = omega arith in
     (lit< tt, room)
 
-known : (c : goal.After-push) → Pushed c.self.inside.places.items c.push.new.self.items (c.args.c, c.args.column)
-known c = pushed_entry c.self.inside.places.items c.push.new.self.items (c.args.c, c.args.column) c.self.invariant (ap (λ es. held_at es c.args.c) c.self.view_is ∙ c.requires.new) c.push.ensures.items
+known : (c : goal.After-push) → Pushed c.self.inside.places.items c.push.new.self.items (record { number = c.args.c; column = c.args.column; share = None })
+known c =
+    let places = c.self.inside.places.items in
+    pushed_entry places c.push.new.self.items (record { number = c.args.c; column = c.args.column; share = None }) c.self.invariant (ap (λ es. held_at es c.args.c) c.self.view_is ∙ c.requires.new)
+    (c.push.ensures.items ∙ ap (λ place. places ++ place ∷ []) c.own.ensures)
 
 pub invariant_of-self : goal.invariant_of-self
 invariant_of-self c = (known c).still
 
 pub returns-clause-held : goal.returns-clause-held
 returns-clause-held c = rw (← c.self.view_is) (known c).held
+
+pub returns-clause-own : goal.returns-clause-own
+returns-clause-own c = (known c).lending
 
 pub returns-clause-number : goal.returns-clause-number
 returns-clause-number c = rw (← c.self.view_is) (known c).number

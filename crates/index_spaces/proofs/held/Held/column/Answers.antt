@@ -1,16 +1,24 @@
-use Rattle.std.proofs.Common.{◌≡◌, ℕ, ap, sym, ◌∙◌, Some, get_or}
-use Rattle.std.proofs.lemmas.Option.{same_Some}
-use Rattle.index_spaces.specs.Column.{ColumnValue}
-use Rattle.index_spaces.specs.Held.{StandsAt}
+use Rattle.std.proofs.Common.{◌≡◌, sym, ◌∙◌, get_or, None, IsSome}
+use Rattle.index_spaces.specs.Held.{entries, lending_at, StandsAt}
 use Rattle.index_spaces.proofs.HeldFacts.{stands_there}
 use Rattle.index_spaces.proofs.held.Held.column.Goals as goal
 
-pub returns : goal.returns
-returns c =
+pub returns-clause-own : goal.returns-clause-own
+returns-clause-own c own =
     let places = c.self.inside.places.items in
     let x = c.index-places-k.result in
     let at : StandsAt places c.args.c c.in_ok-k.k = rw c.as_slice-places.ensures.value at c.in_ok-k.ensures in
     let read : x ≡ get_or places c.in_ok-k.k x = rw c.as_slice-places.ensures.value at c.index-places-k.is in
     let there = stands_there places c.args.c c.in_ok-k.k x c.self.invariant at read in
-    let same = ap (λ (e : ℕ × ColumnValue). e.1) (same_Some c.in_ok-column.field-0.now (c.args.c, there.column) (c.in_ok-column.ensures.value ∙ there.is_column)) in
-    rw (← c.self.view_is) (ap Some same ∙ sym there.here)
+    let none : lending_at (entries places) c.args.c ≡ None = rw c.self.view_is own in
+    rw (← c.self.view_is) (c.column.ensures.own there.entry there.is_entry (sym there.share ∙ none) ∙ sym there.here)
+
+pub returns-clause-share : goal.returns-clause-share
+returns-clause-share c share =
+    let places = c.self.inside.places.items in
+    let x = c.index-places-k.result in
+    let at : StandsAt places c.args.c c.in_ok-k.k = rw c.as_slice-places.ensures.value at c.in_ok-k.ensures in
+    let read : x ≡ get_or places c.in_ok-k.k x = rw c.as_slice-places.ensures.value at c.index-places-k.is in
+    let there = stands_there places c.args.c c.in_ok-k.k x c.self.invariant at read in
+    let lent : IsSome (lending_at (entries places) c.args.c) = rw c.self.view_is share in
+    c.column.ensures.share there.entry there.is_entry (rw there.share at lent)

@@ -3,6 +3,13 @@ use Rattle.index_spaces.specs.Held.{entries, StandsAt}
 use Rattle.index_spaces.proofs.HeldFacts.{entries_length, stands_there}
 use Rattle.index_spaces.proofs.held.Held.take.Goals as goal
 
+pub returns-clause-held : goal.returns-clause-held
+returns-clause-held c =
+    let places = c.self.inside.places.items in
+    let at : StandsAt places c.args.c c.unwrap-k.result = rw (c.unwrap-k.ensures, c.as_slice.ensures.value) at c.place_of.ensures in
+    let there = stands_there places c.args.c c.unwrap-k.result c.remove.result c.self.invariant at c.remove.ensures.value in
+    rw (← c.self.view_is) (rw c.remove.ensures.items there.held)
+
 pub returns-clause-few : goal.returns-clause-few
 returns-clause-few c =
     let places = c.self.inside.places.items in

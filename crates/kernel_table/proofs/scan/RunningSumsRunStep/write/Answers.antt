@@ -15,5 +15,5 @@ returns-clause-cells c = λ j h.
     let place : j + 1 ≡ i.0 + j - i.0 + 1 = omega arith in
     c.sum_along-last.ensures.cells j h
     ∙ ap (λ n. wrapped (c.args.self.now.so_far + sum (take n run))) place
-    ∙ scan_at (cell_of c.args.self.now.from.now) s c.args.k (i.0 + j) c.args.self.now.so_far run c.intervals.ensures.is_space c.requires.place
+    ∙ scan_at (cell_of c.args.self.now.from) s c.args.k (i.0 + j) c.args.self.now.so_far run c.intervals.ensures.is_space c.requires.place
     (has_place i j (omega (arith, h, c.requires.size))) c.requires.ready.1 c.run_of.ensures.run

@@ -8,7 +8,7 @@ invariant-loop-first l = record {
   within : l.first ≤ l.lines;
   scanned : IsScanned l.graph l.table l.self l.first;
   size : length l.racing.items ≡ length l.graph.lines;
-  answered : (u : ℕ) → u < l.first → AreAnsweredAt l.graph l.table.lines.items l.racing.items u;
+  answered : (u : ℕ) → u < l.first → AreAnsweredAt l.graph l.table.limit l.table.lines.items l.racing.items u;
 }
 
 abbrev pub decreases-loop-first : goal.decreases-loop-first

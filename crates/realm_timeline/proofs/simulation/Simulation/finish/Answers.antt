@@ -17,6 +17,7 @@ pub loop-edge-init : goal.loop-edge-init
 loop-edge-init c = record {
   consistent = subst (IsConsistent c.args.graph.now (length c.args.self.now.running.items) (state_of c.mark_finished.new.self)) (sym c.edges_from-edges.ensures)
       (finish_consistent c.args.graph.now c.lines.ensures.is_graph c.requires.accepted (length c.args.self.now.running.items) (state_of c.args.self.now) (state_of c.mark_finished.new.self) c.args.processor c.args.line c.requires.consistent c.requires.runs c.mark_finished.ensures);
+  by_columns = c.mark_finished.ensures.by_columns;
   time = c.mark_finished.ensures.time;
   slots = c.mark_finished.ensures.slots;
   running = c.mark_finished.ensures.running;
@@ -32,6 +33,7 @@ count_down-requires-clause-waits c = next_waits c.args.graph.now (length c.args.
 pub loop-edge-preserved : goal.loop-edge-preserved
 loop-edge-preserved c = record {
   consistent = next_counted c.args.graph.now (length c.args.self.now.running.items) (state_of c.loop-edge.self) (state_of c.count_down.new.self) c.edges_from-edges.result.now c.loop-edge.edge-index c.loop-edge.invariant.consistent c.loop-edge-test.true c.in_ok-count_down.ensures;
+  by_columns = c.in_ok-count_down.ensures.by_columns ∙ c.loop-edge.invariant.by_columns;
   time = c.in_ok-count_down.ensures.time ∙ c.loop-edge.invariant.time;
   slots = c.in_ok-count_down.ensures.slots ∙ c.loop-edge.invariant.slots;
   running = c.in_ok-count_down.ensures.running ∙ c.loop-edge.invariant.running;

@@ -1,4 +1,4 @@
-use Rattle.std.proofs.Common.{◌∙◌, ◌+◌, ◌*◌, false, replicate, ap, refl, arith}
+use Rattle.std.proofs.Common.{◌∙◌, false, replicate, ap, refl, arith}
 use Rattle.std.specs.Prelude.{None}
 use Rattle.realm_timeline.specs.Queue.{no_queue}
 use Rattle.realm_timeline.specs.State.{State, state_of}
@@ -12,6 +12,7 @@ count_down-requires-clause-waits c = offer_waits c.args.graph.now c.args.process
 
 pub loop-line-preserved : goal.loop-line-preserved
 loop-line-preserved c = record {
+  by_columns = c.in_ok-count_down.ensures.by_columns ∙ c.loop-line.invariant.by_columns;
   fresh = fresh_counted c.args.graph.now c.args.processors (state_of c.loop-line.simulation) (state_of c.count_down.new.self) c.loop-line.line c.loop-line.invariant.fresh c.in_ok-count_down.ensures;
   consistent = offer_counted c.args.graph.now c.args.processors (state_of c.loop-line.simulation) (state_of c.count_down.new.self) c.loop-line.line c.loop-line.invariant.consistent (omega (arith, c.loop-line-test.true)) c.in_ok-count_down.ensures;
 }
@@ -23,6 +24,7 @@ returns-clause-simulation c = fresh_begins c.args.graph.now c.args.processors (s
 pub loop-line-init : goal.loop-line-init
 loop-line-init c =
     let s : State = record {
+      by_columns = c.args.by_columns;
       time = 0;
       slots = c.in_ok-filled.field-0.items;
       order = c.new.result.items;
@@ -39,6 +41,7 @@ loop-line-init c =
       running = c.in_ok-filled-3.ensures.items;
     } in
     record {
+      by_columns = refl;
       fresh = f;
-      consistent = fresh_consistent c.args.graph.now c.args.processors s f c.lines-lines.ensures.is_graph c.in_ok-first_counts.ensures.count c.in_ok-first_counts.ensures.counts (c.in_ok-empty_queues.ensures ∙ ap (λ n. replicate (2 * n + 1) no_queue) c.locks.ensures.number);
+      consistent = fresh_consistent c.args.graph.now c.args.processors s f c.lines-lines.ensures.is_graph c.in_ok-first_counts.ensures.count c.in_ok-first_counts.ensures.counts (c.in_ok-empty_queues.ensures ∙ ap (λ n. replicate n no_queue) c.count_of_queues.ensures.count);
     }

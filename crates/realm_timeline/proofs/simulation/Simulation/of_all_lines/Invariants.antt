@@ -5,6 +5,7 @@ use Rattle.realm_timeline.proofs.simulation.Simulation.of_all_lines.Given as goa
 abbrev pub invariant-loop-next : goal.invariant-loop-next
 invariant-loop-next l = record {
   started_all : HasStartedAll l.graph l.processors (state_of l.simulation);
+  by_columns : l.simulation.by_columns ≡ l.by_columns;
   count : length l.simulation.running.items ≡ l.processors;
 }
 

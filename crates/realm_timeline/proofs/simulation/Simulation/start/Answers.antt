@@ -10,10 +10,7 @@ overflow_add-finish c =
     omega arith
 
 pub returns : goal.returns
-returns c = (
-  c.in-Some.line,
-  starts_with c.args.graph.now (state_of c.args.self.now) _ c.args.place c.args.processor c.in-Some.line c.take_at.new.queues.items
-      c.in-Some.ensures.line.0 c.in-Some.ensures.line.1 c.in-Some.ensures.line.2 c.in_ok-add_holder.ensures.holder (c.in_ok-add_holder.ensures.count ∙ c.take_at.ensures.count) (subst (λ x. x ≤ 68719476736) c.cost_of.ensures.cost c.cost_of.ensures.few) refl
-      (ap (λ f. slice_set c.args.self.now.slots.items c.in-Some.line (Some (record { processor = c.args.processor; start = c.args.self.now.time; finish = c.args.self.now.time + f }))) c.cost_of.ensures.cost)
-      c.in_ok-push.ensures.ok refl refl refl,
-)
+returns c = starts_with c.args.graph.now (state_of c.args.self.now) _ c.args.place c.args.processor c.args.line c.remove_at.new.queues.items
+    c.requires.listed c.requires.lowest c.requires.unheld c.remove_at.ensures.queues c.in_ok-add_holder.ensures.holder (c.in_ok-add_holder.ensures.count ∙ c.remove_at.ensures.count) (subst (λ x. x ≤ 68719476736) c.cost_of.ensures.cost c.cost_of.ensures.few) refl refl
+    (ap (λ f. slice_set c.args.self.now.slots.items c.args.line (Some (record { processor = c.args.processor; start = c.args.self.now.time; finish = c.args.self.now.time + f }))) c.cost_of.ensures.cost)
+    c.in_ok-push.ensures.ok refl refl refl

@@ -1,8 +1,7 @@
-use Rattle.std.proofs.Common.{◌||◌, ◌∙◌, ap, sym}
+use Rattle.std.proofs.Common.{◌||◌, ◌∙◌, ap}
 use Rattle.std.specs.List.{list_any}
 use Rattle.std.specs.Str.{bytes_eq}
-use Rattle.std.proofs.lemmas.Map.Text.{is_eq-slice_cmp}
-use Rattle.refused_words.proofs.RepeatFacts.{listed_keys, not_twice, cond_or, as_key}
+use Rattle.refused_words.proofs.RepeatFacts.{key_words, listed_keys, not_twice, put_key}
 use Rattle.refused_words.proofs.seen_words.SeenWords.add.Goals as goal
 
 pub returns-clause-there : goal.returns-clause-there
@@ -10,6 +9,5 @@ returns-clause-there c = not_twice c.in-Ok.added _ c.in-Ok.ensures.added ∙ (li
 
 pub returns-clause-all : goal.returns-clause-all
 returns-clause-all c = λ w.
-    sym (listed_keys w c.insert.new.self.keys)
-    ∙ (c.in-Ok.ensures.updates.0 (as_key c.args.word w)
-    ∙ (cond_or _ _ _ (is_eq-slice_cmp c.args.word.now w) ∙ ap (λ b. bytes_eq c.args.word.now w || b) (listed_keys w c.self.inside.words.keys ∙ ap (list_any (bytes_eq w)) c.self.view_is)))
+    ap (λ ks. list_any (bytes_eq w) (key_words ks)) c.in-Ok.ensures.keys
+    ∙ (put_key c.args.word w c.self.inside.words.keys ∙ ap (λ z. bytes_eq c.args.word.now w || list_any (bytes_eq w) z) c.self.view_is)

@@ -6,7 +6,7 @@ use Rattle.run_state.specs.Run.{out, stage_at}
 use Rattle.run_core.specs.Core.{CoreValue}
 use Rattle.run_core.specs.Counts.{has_stage}
 use Rattle.run_core.specs.Finishing.{NothingOut}
-use Rattle.run_core.specs.Kept.{shown_stage}
+use Rattle.run_lists.specs.Stages.{shown_stage}
 use Rattle.run_core.proofs.CountFacts.{none_out_is_counted}
 use Rattle.run_core.proofs.run.Core.lines_at.Goals as goal
 

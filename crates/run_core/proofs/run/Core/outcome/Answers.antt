@@ -2,12 +2,13 @@ use Rattle.std.specs.Prelude.{Some, slice_get}
 use Rattle.basics.specs.Lists.{numbers_below}
 use Rattle.run_state.specs.Run.{end_so_far}
 use Rattle.run_core.specs.Answers.{phase_of_line}
-use Rattle.run_core.specs.Kept.{shown_stage}
+use Rattle.run_lists.specs.Stages.{shown_stage}
 use Rattle.std.proofs.Common.{◌≡◌, ◌≤◌, ◌<◌, ℕ, map, length, refl, sym, ◌∙◌, ap, subst, arith, false}
 use Rattle.graph_terms.specs.Graph.{GraphValue}
 use Rattle.run_state.specs.Quiet.{ByTimes, IsLawfulWith}
 use Rattle.run_core.specs.Core.{CoreValue}
 use Rattle.run_core.proofs.OutcomeFacts.{handles_and_stages, handle_answers, columns_home, trace_small, trace_by_times, trace_lines, outcome_is, trace_lawful}
+use Rattle.run_core.proofs.ReaderFacts.{unlent}
 use Rattle.run_core.proofs.run.Core.outcome.Goals as goal
 use Rattle.run_core.specs.Finishing.{IsQuiet}
 use Rattle.run_core.specs.Core.{IsCore, MayFault}
@@ -26,10 +27,15 @@ answers_of-requires-clause-issued c =
 pub answers_of-requires-clause-created : goal.answers_of-requires-clause-created
 answers_of-requires-clause-created c = handle_answers _ c.self.invariant.core
 
-pub into_columns-requires : goal.into_columns-requires
-into_columns-requires c =
+pub into_columns-requires-clause-home : goal.into_columns-requires-clause-home
+into_columns-requires-clause-home c =
     let quiet = subst (λ (v : CoreValue). IsQuiet v.graph v.run) (sym c.self.view_is) c.requires.quiet in
     columns_home _ c.self.inside.columns.homes c.self.inside.columns.takers.items refl c.self.invariant.core quiet c.self.invariant.kept
+
+pub into_columns-requires-clause-unlent : goal.into_columns-requires-clause-unlent
+into_columns-requires-clause-unlent c =
+    let quiet = subst (λ (v : CoreValue). IsQuiet v.graph v.run) (sym c.self.view_is) c.requires.quiet in
+    unlent c.self.inside.checked.now.graph _ c.self.inside.columns.homes.lendings c.self.invariant.core.lent quiet.none_out
 
 pub invariant_of-result : goal.invariant_of-result
 invariant_of-result c =

@@ -1,21 +1,22 @@
 use Rattle.std.proofs.Common.{◌≡◌, ◌≢◌, map, refl, sym, ◌∙◌, ap, subst, arith}
-use Rattle.std.specs.Prelude.{Some, slice_set}
+use Rattle.std.specs.Prelude.{Some, Contains, slice_set}
 use Rattle.event_table.specs.declared.handle.Handle.{Handle}
 use Rattle.event_table.specs.declared.handle.Fate.{Fate}
 use Rattle.event_table.specs.EventMap.{answer, answer_of, ended_with}
-use Rattle.run_state.specs.Sound.{AccessesColumn}
-use Rattle.run_state.specs.WholeLine.{all_home, columns_for, values_with, arrival_for, holders_without}
+use Rattle.graph_terms.specs.declared.outcome.End.TheVariants.{Cancelled}
+use Rattle.graph_terms.specs.Access.{accesses}
+use Rattle.run_state.specs.WholeLine.{values_with, arrival_for, holders_without}
 use Rattle.run_state.specs.Run.{is_listed, list_at}
-use Rattle.run_core.specs.Holders.{holders_by, AreHeld}
+use Rattle.run_lists.specs.Holders.{holders_by, AreHeld, frees_in}
 use Rattle.run_core.specs.Core.{IsCore}
-use Rattle.run_core.specs.Events.{EventsValue}
+use Rattle.run_lists.specs.Events.{EventsValue}
 use Rattle.run_core.specs.Steps.{with_end, handle_at, fate_for}
 use Rattle.run_core.proofs.RestFacts.{with_trace}
 use Rattle.run_parts.specs.declared.progress.Progress.TheVariants.{Ended}
-use Rattle.run_core.specs.Kept.{shown_stage, places_of, frees_in, shown_core}
-use Rattle.run_core.specs.Works.{cells_in}
-use Rattle.run_core.proofs.CoreFacts.{handle_pending}
-use Rattle.run_core.proofs.EndedFacts.{holder_freed, ended_shown, column_is_out, column_is_held, trace_is_short, ended_kept, finished_of, finished_from, finished_is, ended_core, ended_is, ended_works}
+use Rattle.run_lists.specs.Stages.{shown_stage}
+use Rattle.run_core.specs.Kept.{places_of, shown_core}
+use Rattle.run_core.proofs.CoreFacts.{handle_pending, kept_core}
+use Rattle.run_core.proofs.EndedFacts.{holder_freed, ended_shown, column_is_held, may_give, is_seen, settled_places, settled_lendings, settled_kept, settled_long, trace_is_short, ended_kept, finished_of, finished_from, finished_is, ended_core, ended_is, ended_works}
 use Rattle.run_core.proofs.OutFacts.{out_put}
 use Rattle.run_core.proofs.SlotsGiven.{ended_slots}
 use Rattle.run_core.proofs.run.Core.put_back.Goals as goal
@@ -23,16 +24,12 @@ use Rattle.run_core.proofs.run.Core.put_back.Goals as goal
 abbrev ended_events : EventsValue → Handle → Fate → EventsValue
 ended_events v h f = record { handles = v.handles; table = ended_with v.table h f }
 
-pub settle-requires-clause-out : goal.settle-requires-clause-out
-settle-requires-clause-out c =
+pub settle-requires-clause-may : goal.settle-requires-clause-may
+settle-requires-clause-may c =
     let s = c.self.inside in
     let is = finished_is _ c.args.self.now c.args.finished c.into_parts-line.result c.self.view_is c.into_parts-line.ensures c.requires in
-    λ runs k a. column_is_out _ s.columns.homes s.columns.takers.items refl c.self.invariant.core c.self.invariant.kept _ is runs k (subst (λ g. AccessesColumn g c.into_parts-line.result.0 k) c.graph-graph.ensures.graph a)
-
-pub settle-requires-clause-has : goal.settle-requires-clause-has
-settle-requires-clause-has c =
-    let is = finished_is _ c.args.self.now c.args.finished c.into_parts-line.result c.self.view_is c.into_parts-line.ensures c.requires in
-    λ runs k a. column_is_held _ _ is runs k (subst (λ g. AccessesColumn g c.into_parts-line.result.0 k) c.graph-graph.ensures.graph a)
+    λ runs a m. may_give _ s.columns.homes s.columns.takers.items (λ t. places_of s.columns.homes.columns s.columns.takers.items) (λ t. s.columns.homes.lendings) c.self.invariant.core c.self.invariant.kept _ is runs a
+    (subst (λ g. Contains (accesses g c.into_parts-line.result.0) a) c.graph-graph.ensures.graph m)
 
 pub free-requires-clause-holder : goal.free-requires-clause-holder
 free-requires-clause-holder c =
@@ -63,14 +60,22 @@ ended c =
     let h = handle_at (shown_core s.hosted s.checked.now.graph s.stages.items s.events s.columns.homes s.columns.takers.items s.values.items s.holders.holding.items s.trace.items) r.0 in
     let e = c.graph-graph.ensures.graph in
     let events : c.end.new.self ≡ ended_events s.events h (fate_for r.1) = c.end.ensures.map ∙ ap (ended_events s.events h) c.fate_for.ensures in
-    let places = c.settle.ensures.places ∙ ap (λ g. all_home (places_of s.columns.homes s.columns.takers.items) (cells_in r.2) (columns_for g r.0 r.1)) e in
+    let g = s.checked.now.graph in
+    let f = (kept_core _ c.self.invariant.core).sound.graph in
+    let homes' = c.settle.new.columns.homes in
+    let seen = λ (runs : r.1 ≢ Cancelled). is_seen _ s.columns.homes s.columns.takers.items (λ t. places_of s.columns.homes.columns s.columns.takers.items) (λ t. s.columns.homes.lendings) c.self.invariant.core c.self.invariant.kept (finished_of r) is runs c.sight_gives_cells.ensures in
+    let has = λ (runs : r.1 ≢ Cancelled). column_is_held _ s.columns.homes s.columns.takers.items (λ t. places_of s.columns.homes.columns s.columns.takers.items) (λ t. s.columns.homes.lendings) c.self.invariant.core c.self.invariant.kept (finished_of r) is runs in
+    let places = ap (places_of homes'.columns) c.settle.ensures.takers
+    ∙ settled_places g c.graph-graph.result.now e f r.0 r.1 r.2 s.columns.homes homes' c.settle.ensures.given c.settle.ensures.cancelled seen s.columns.takers.items (c.self.invariant.kept.each_home ∙ sym c.self.invariant.kept.each_taker) has in
+    let lends = settled_lendings g c.graph-graph.result.now e f r.0 r.1 r.2 s.columns.homes homes' c.settle.ensures.given c.settle.ensures.cancelled in
     let arrives = c.settle.ensures.values ∙ ap (λ g. values_with s.values.items (arrival_for g r.0 r.1)) e in
     let frees = sym (ap (λ g. holders_by g c.free.new.holders.holding.items) e) ∙ (c.free.ensures.shown ∙ (ap (λ ss. holders_without (holders_by c.graph-graph.result.now s.holders.holding.items) (frees_in c.graph-graph.result.now (map shown_stage ss) r.0)) c.as_slice.ensures.value ∙ ap (λ g. holders_without (holders_by g s.holders.holding.items) (frees_in g (map shown_stage s.stages.items) r.0)) e)) in
     ap (shown_core s.hosted s.checked.now.graph (slice_set s.stages.items r.0 (Ended r.1)) c.end.new.self c.settle.new.columns.homes c.settle.new.columns.takers.items c.settle.new.values.items c.free.new.holders.holding.items) c.push_within.ensures.items
-    ∙ ended_shown s.hosted s.checked.now.graph s.stages.items s.events s.columns.homes c.settle.new.columns.homes s.columns.takers.items c.settle.new.columns.takers.items s.values.items c.settle.new.values.items s.holders.holding.items c.free.new.holders.holding.items s.trace.items (finished_of r) c.self.invariant.core is places arrives frees c.end.new.self events
+    ∙ ended_shown s.hosted s.checked.now.graph s.stages.items s.events s.columns.homes c.settle.new.columns.homes s.columns.takers.items c.settle.new.columns.takers.items s.values.items c.settle.new.values.items s.holders.holding.items c.free.new.holders.holding.items s.trace.items (finished_of r) c.self.invariant.core is places lends arrives frees c.end.new.self events
 
-pub invariant_of-self : goal.invariant_of-self
-invariant_of-self c =
+-- which is a core
+next : (c : goal.After-end) → IsCore (with_end (shown_core c.self.inside.hosted c.self.inside.checked.now.graph c.self.inside.stages.items c.self.inside.events c.self.inside.columns.homes c.self.inside.columns.takers.items c.self.inside.values.items c.self.inside.holders.holding.items c.self.inside.trace.items) (finished_of c.into_parts-line.result))
+next c =
     let s = c.self.inside in
     let r = c.into_parts-line.result in
     let is = finished_is _ c.args.self.now c.args.finished r c.self.view_is c.into_parts-line.ensures c.requires in
@@ -78,9 +83,22 @@ invariant_of-self c =
     let events : c.end.new.self ≡ ended_events s.events h (fate_for r.1) = c.end.ensures.map ∙ ap (ended_events s.events h) c.fate_for.ensures in
     let here = subst (λ (v : EventsValue). answer v.table h ≡ Some (answer_of (fate_for r.1))) events (c.end.ensures.ended ∙ ap (λ f. Some (answer_of f)) c.fate_for.ensures) in
     let others = subst (λ (v : EventsValue). (k : Handle) → k ≢ h → answer v.table k ≡ answer s.events.table k) events c.end.ensures.others in
-    with_trace c.self.invariant (ended_core c.put_back_keeps_rest.ensures _ _ (finished_of r) (ended c) c.self.invariant.core is here others)
-    (ended_kept c.graph-graph.result.now _ c.graph-graph.ensures.graph s.columns.homes s.columns.takers.items c.settle.new.columns.homes c.settle.new.columns.takers.items c.self.invariant.kept (finished_of r) is c.settle.ensures.each.0 c.settle.ensures.each.1 c.settle.ensures.kept)
-    (subst (λ g. AreHeld g c.free.new.holders.holding.items c.free.new.holders.held.items) c.graph-graph.ensures.graph c.free.ensures.held)
+    ended_core c.put_back_keeps_sharing.ensures _ _ (finished_of r) refl c.self.invariant.core is here others
+
+pub invariant_of-self : goal.invariant_of-self
+invariant_of-self c =
+    let s = c.self.inside in
+    let r = c.into_parts-line.result in
+    let e = c.graph-graph.ensures.graph in
+    let g = s.checked.now.graph in
+    let f = (kept_core _ c.self.invariant.core).sound.graph in
+    let homes' = c.settle.new.columns.homes in
+    let is = finished_is _ c.args.self.now c.args.finished r c.self.view_is c.into_parts-line.ensures c.requires in
+    let seen = λ (runs : r.1 ≢ Cancelled). is_seen _ s.columns.homes s.columns.takers.items (λ t. places_of s.columns.homes.columns s.columns.takers.items) (λ t. s.columns.homes.lendings) c.self.invariant.core c.self.invariant.kept (finished_of r) is runs c.sight_gives_cells.ensures in
+    with_trace c.self.invariant (subst IsCore (sym (ended c)) (next c))
+    (ended_kept _ s.columns.homes homes' s.columns.takers.items c.settle.new.columns.takers.items c.self.invariant.kept (finished_of r) is (settled_long g c.graph-graph.result.now e f r.0 r.1 r.2 s.columns.homes homes' c.settle.ensures.given c.settle.ensures.cancelled) c.settle.ensures.takers
+    (settled_kept g c.graph-graph.result.now e f r.0 r.1 r.2 s.columns.homes homes' c.settle.ensures.given c.settle.ensures.cancelled seen))
+    (subst (λ h. AreHeld h c.free.new.holders.holding.items c.free.new.holders.held.items) e c.free.ensures.held)
     (let wide = c.push_within.ensures.capacity in let long = c.self.invariant.trace in omega (arith, wide, long))
 
 pub returns-clause-put : goal.returns-clause-put
@@ -91,7 +109,7 @@ pub returns-clause-works : goal.returns-clause-works
 returns-clause-works c =
     let r = c.into_parts-line.result in
     let is = finished_is _ c.args.self.now c.args.finished r c.self.view_is c.into_parts-line.ensures c.requires in
-    ended_works c.put_back_leaves.ensures _ c.args.self.now _ (finished_of r) c.args.finished c.self.view_is (finished_from c.args.finished r c.into_parts-line.ensures) (ended c) c.self.invariant.core is
+    ended_works c.put_back_leaves_sight.ensures c.put_back_leaves_end.ensures _ c.args.self.now _ (finished_of r) c.args.finished c.self.view_is (finished_from c.args.finished r c.into_parts-line.ensures) (ended c) c.self.invariant.core (next c) is
 
 pub returns-clause-out : goal.returns-clause-out
 returns-clause-out c = out_put c.args.self.now _ c.args.finished (subst IsCore c.self.view_is c.self.invariant.core) c.requires (returns-clause-put c)

@@ -2,7 +2,7 @@ use Rattle.std.proofs.Common.{◌≡◌, ◌≤◌, map, length, sym, ap, subst,
 use Rattle.std.proofs.lemmas.List.{length-map}
 use Rattle.run_parts.specs.Shown.{IsShown}
 use Rattle.run_core.specs.Core.{CoreValue}
-use Rattle.run_core.specs.Kept.{shown_stage}
+use Rattle.run_lists.specs.Stages.{shown_stage}
 use Rattle.run_core.specs.Resumed.{InState}
 use Rattle.run_core.proofs.PartsFacts.{shown_of}
 use Rattle.run_core.proofs.run.Core.resume.Goals as goal
@@ -28,6 +28,7 @@ of_parts-requires-clause-room c =
       holding = omega (arith, marked, i.holders.holding.ok.0, i.holders.holding.ok.1);
       trace = c.self.invariant.trace;
       takers = omega (arith, taken, i.columns.takers.ok.0, i.columns.takers.ok.1);
+      lent = (let homes = c.self.invariant.kept.each_home in let room = c.into_room.ensures in omega (arith, homes, room));
       held = omega (arith, locked, i.holders.held.ok.0, i.holders.held.ok.1);
       ends = c.self.invariant.ends;
       answers = c.self.invariant.answers;

@@ -3,7 +3,7 @@ use Rattle.std.specs.Prelude.{not, ◌&&◌}
 use Rattle.basics.specs.Lists.{count_below}
 use Rattle.graph_terms.specs.Graph.{never_comes}
 use Rattle.run_state.specs.Run.{ended}
-use Rattle.run_core.specs.Kept.{shown_stage}
+use Rattle.run_lists.specs.Stages.{shown_stage}
 use Rattle.run_core.proofs.run.counts.count_left.Given as goal
 
 abbrev pub invariant-loop-line : goal.invariant-loop-line

@@ -1,5 +1,6 @@
 use Rattle.std.proofs.Common.{◌≡◌, ◌∙◌, length, arith}
-use Rattle.run_core.proofs.ListsOfLines.{count_pushed, answers_more, answers_all}
+use Rattle.run_lists.proofs.Public.{count_pushed}
+use Rattle.run_core.proofs.ListsOfLines.{answers_more, answers_all}
 use Rattle.run_core.proofs.run.outcome.answers_of.Goals as goal
 
 pub loop-line-preserved : goal.loop-line-preserved

@@ -1,7 +1,7 @@
 use Rattle.std.proofs.Common.{◌≡◌, ◌≤◌, length, map, take, vec_len}
 use Rattle.std.specs.Vec.{vec_capacity}
 use Rattle.run_state.specs.Run.{end_so_far}
-use Rattle.run_core.specs.Kept.{shown_stage}
+use Rattle.run_lists.specs.Stages.{shown_stage}
 use Rattle.run_parts.specs.declared.progress.Progress.{Progress}
 use Rattle.run_core.proofs.run.outcome.ends_of.Given as goal
 

@@ -1,8 +1,9 @@
 use Rattle.std.proofs.Common.{◌<◌, ◌∙◌, length, map, arith}
-use Rattle.run_core.specs.Kept.{shown_stage}
+use Rattle.run_lists.specs.Stages.{shown_stage}
 use Rattle.run_core.specs.Answers.{phase_of_line}
 use Rattle.run_parts.specs.declared.progress.Progress.TheVariants.{Unissued}
-use Rattle.run_core.proofs.ListsOfLines.{line_pushed, count_pushed, phase_next}
+use Rattle.run_lists.proofs.Public.{line_pushed, count_pushed}
+use Rattle.run_core.proofs.ListsOfLines.{phase_next}
 use Rattle.run_core.proofs.run.outcome.phases_of.Goals as goal
 
 pub loop-line-preserved : goal.loop-line-preserved

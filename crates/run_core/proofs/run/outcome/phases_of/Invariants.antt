@@ -1,7 +1,7 @@
 use Rattle.std.proofs.Common.{◌≡◌, ◌≤◌, length, map, vec_len}
 use Rattle.std.specs.Vec.{vec_capacity}
 use Rattle.basics.specs.Lists.{numbers_below}
-use Rattle.run_core.specs.Kept.{shown_stage}
+use Rattle.run_lists.specs.Stages.{shown_stage}
 use Rattle.run_core.specs.Answers.{phase_of_line}
 use Rattle.run_core.proofs.run.outcome.phases_of.Given as goal
 

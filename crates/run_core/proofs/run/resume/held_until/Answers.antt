@@ -4,7 +4,7 @@ use Rattle.run_parts.specs.Shown.{blank_state}
 use Rattle.run_core.specs.Resumed.{over_at, stage_is_over}
 use Rattle.run_parts.specs.declared.states.LineState.{LineState}
 use Rattle.run_core.proofs.OutcomeFacts.{any_default}
-use Rattle.run_core.proofs.HolderFacts.{acquire_known, line_acquires, line_releases}
+use Rattle.run_lists.proofs.Public.{acquire_known, line_acquires, line_releases}
 use Rattle.run_core.proofs.run.resume.held_until.Goals as goal
 
 pub bounds-lines-acquire : goal.bounds-lines-acquire

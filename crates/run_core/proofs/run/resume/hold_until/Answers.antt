@@ -1,7 +1,7 @@
 use Rattle.std.proofs.Common.{◌+◌, sym, subst}
-use Rattle.run_core.specs.Holders.{holders_by}
+use Rattle.run_lists.specs.Holders.{holders_by}
 use Rattle.run_core.specs.Resumed.{FoundBelow}
-use Rattle.run_core.proofs.HolderFacts.{lock_shown}
+use Rattle.run_lists.proofs.Public.{lock_shown}
 use Rattle.run_core.proofs.HoldFacts.{found_no_more, may_hold, not_found, found_more}
 use Rattle.run_core.proofs.run.resume.hold_until.Goals as goal
 

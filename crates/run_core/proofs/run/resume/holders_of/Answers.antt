@@ -1,5 +1,5 @@
 use Rattle.std.proofs.Common.{arith}
-use Rattle.run_core.specs.Holders.{holders_by}
+use Rattle.run_lists.specs.Holders.{holders_by}
 use Rattle.run_core.proofs.HoldFacts.{all_found}
 use Rattle.run_core.proofs.run.resume.holders_of.Goals as goal
 

@@ -1,4 +1,4 @@
-use Rattle.run_core.specs.Holders.{holders_by, AreHeld}
+use Rattle.run_lists.specs.Holders.{holders_by, AreHeld}
 use Rattle.run_core.specs.Resumed.{FoundBelow}
 use Rattle.run_core.proofs.run.resume.holders_of.Given as goal
 

@@ -9,10 +9,11 @@ use Rattle.run_words.specs.declared.content.Content.TheVariants.{Issuer}
 use Rattle.run_words.specs.declared.content.IssueState.{IssueState}
 use Rattle.run_words.specs.Closing.{IsLeft}
 use Rattle.run_words.specs.Emptying.{IsLineItem}
-use Rattle.run_words.specs.Layout.{size_of, column_slot, issue_turn_slot, status_word, value_word}
+use Rattle.run_words.specs.Layout.{size_of, issue_turn_slot, status_word, value_word}
+use Rattle.share_words.specs.Shares.{AreShares}
 use Rattle.run_words.specs.Rule.{handle_at, column_with, IsIssueState}
 use Rattle.run_state.specs.Run.{stage_at}
-use Rattle.run_words.proofs.EmptyFacts.{one_content, issue_turn_taken, none_filled, issue_state_is}
+use Rattle.run_words.proofs.EmptyFacts.{one_content, lies_on, issue_turn_taken, none_filled, issue_state_is}
 use Rattle.std.proofs.lemmas.List.{length-map}
 use Rattle.event_table.specs.EventMap.{EventMap, life_at, without_waiters}
 use Rattle.shared_events.specs.Views.{lists, shape_of}
@@ -25,6 +26,16 @@ use Rattle.run_words.specs.Reading.{state_for, value_for}
 use Rattle.run_words.specs.declared.closing_room.ClosingRoom.{ClosingRoom}
 use Rattle.run_words.proofs.Resuming.{line_item, shows, none_is_out, none_waits}
 use Rattle.run_words.proofs.words.Words.close.Goals as goal
+
+pub issue_turn_slot-requires : goal.issue_turn_slot-requires
+issue_turn_slot-requires c =
+    let b = c.close_table-base in
+    subst (λ (g : GraphValue). AreShares g b.result.3) (sym (c.graph-graph.ensures.graph ∙ ap (λ (x : Base). x.checked.now.graph) b.ensures.base)) b.ensures.shares
+
+pub homes_of-homes-requires-clause-shares : goal.homes_of-homes-requires-clause-shares
+homes_of-homes-requires-clause-shares c =
+    let b = c.close_table-base in
+    subst (λ (g : GraphValue). AreShares g b.result.3) (sym (c.graph-graph.ensures.graph ∙ ap (λ (x : Base). x.checked.now.graph) b.ensures.base)) b.ensures.shares
 
 pub issue_state_of-issue_turn-requires : goal.issue_state_of-issue_turn-requires
 issue_state_of-issue_turn-requires c =
@@ -84,7 +95,7 @@ homes_of-homes-requires-clause-items c = λ j near.
     let l = subst (λ (x : GraphValue). IsLeft x b.result.0.events c.args.seat.inner.me.0 k.0 k.1 (slots_items b.result.1.words) items) (sym c.graph-graph.ensures.graph)
     (subst (λ (x : Base). IsLeft x.checked.now.graph x.events c.args.seat.inner.me.0 k.0 k.1 (slots_items b.result.1.words) items) (sym b.ensures.base) k.2) in
     let x = l.columns j near in
-    (column_with c.graph-graph.result.now j x.0, ap (λ s. get_elem? s (column_slot (size_of c.graph-graph.result.now) j)) (c.settle_lines.ensures.same.0 ∙ c.take.ensures.others.0) ∙ x.2)
+    (column_with c.graph-graph.result.now j x.0, lies_on c.graph-graph.result.now items (slots_items c.settle_lines.new.closed.slots) j (column_with c.graph-graph.result.now j x.0) (c.settle_lines.ensures.same.0 ∙ c.take.ensures.others.0) x.2)
 
 pub free-requires : goal.free-requires
 free-requires c = λ k near. none_filled (size_of c.graph-graph.result.now) (slots_filled c.homes_of-homes.new.closed.slots) c.homes_of-homes.ensures.taken k (subst (λ n. k < n) c.homes_of-homes.ensures.deep near)
@@ -102,7 +113,7 @@ returns c =
     let few : length g.lines ≤ 65536 = omega (arith, c.lines.ensures.number, c.lines.ensures.few) in
     let issue_turn = l.issue_turn in
     let same : issue_turn.0 ≡ c.issue_state_of-issue_turn.result = issue_state_is issue_turn.0 c.issue_state_of-issue_turn.result (sym (one_content items (issue_turn_slot (size_of g)) c.take.result (Issuer issue_turn.0) (ap (get_elem? items) (sym c.issue_turn_slot.ensures) ∙ c.take.ensures.value) issue_turn.1) ∙ c.issue_state_of-issue_turn.ensures) in
-    let issue_state = subst (λ (d : IssueState). IsIssueState e (length g.lines) k.1 d) same issue_turn.2 in
+    let issue_state = subst (λ (d : IssueState). IsIssueState e (length g.lines) k.1 d) (same ∙ sym c.into_state-maker.ensures) issue_turn.2 in
     let own = c.args.self in
     let size : size_of g ≡ size_of own.base.checked.now.graph = ap size_of (c.graph-graph.ensures.graph ∙ ap (λ (x : Base). x.checked.now.graph) b.ensures.base) in
     let graph : g ≡ own.base.checked.now.graph = c.graph-graph.ensures.graph ∙ ap (λ (x : Base). x.checked.now.graph) b.ensures.base in
@@ -127,13 +138,28 @@ returns c =
     c.values_of-phases.result c.values_of-phases.ensures.each
     (subst (λ ws. (i : ℕ) → i < length g.lines → slice_get c.values_of-phases.result i ≡ Some (value_for (verb_at g i) (slice_index ws (value_word (size_of g) i)))) words_same c.values_of-phases.ensures.values)
     c.homes_of-homes.result c.homes_of-homes.ensures.each
-    (λ j x near at. c.homes_of-homes.ensures.home j x near (ap (λ s. get_elem? s (column_slot (size_of g) j)) (c.settle_lines.ensures.same.0 ∙ slots_same) ∙ at))
+    (λ j x near at. c.homes_of-homes.ensures.home j x near (lies_on g items (slots_items c.settle_lines.new.closed.slots) j x (c.settle_lines.ensures.same.0 ∙ slots_same) at))
     (λ j near. c.into_table.ensures.free j (subst (λ n. j < n) (ap (λ (t : EventMap). t.waiters) c.into_table.ensures.map) near)) in
+    let room : HasRoom b.result.0.checked.now.graph b.result.2.room = subst (λ (x : GraphValue). HasRoom x b.result.2.room) (ap (λ (x : Base). x.checked.now.graph) (sym b.ensures.base)) (subst (λ (s : ClosingRoom). HasRoom own.base.checked.now.graph s.room) (sym b.ensures.closing_room) own.has_closing_room.room) in
+    let wide : length g.lines ≤ vec_capacity c.into_state-maker.result.handles = issue_state.room in
     record {
       run = k.0;
       handled = k.1;
       shown = subst (λ (x : GraphValue). IsShown x k.0 k.1 c.states_of-states.result m c.homes_of-homes.result c.values_of-phases.result) c.graph-graph.ensures.graph shown;
-      room = subst (λ (x : GraphValue). HasRoom x b.result.2.room) (ap (λ (x : Base). x.checked.now.graph) (sym b.ensures.base)) (subst (λ (s : ClosingRoom). HasRoom own.base.checked.now.graph s.room) (sym b.ensures.closing_room) own.has_closing_room.room);
+      room = record {
+        stages = room.stages;
+        handles = subst (λ (x : GraphValue). length x.lines ≤ vec_capacity c.into_state-maker.result.handles) c.graph-graph.ensures.graph wide;
+        busy = room.busy;
+        values = room.values;
+        holding = room.holding;
+        trace = room.trace;
+        takers = room.takers;
+        held = room.held;
+        lent = room.lent;
+        ends = room.ends;
+        answers = room.answers;
+        phases = room.phases;
+      };
       graph = ap (λ (x : Base). x.checked.now.graph) b.ensures.base;
       slots = width;
       enough = (let need = ap (λ (x : Base). x.checked.now.need) b.ensures.base in omega (arith, need, width, own.fitting.0));

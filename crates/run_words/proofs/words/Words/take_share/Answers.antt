@@ -1,21 +1,10 @@
-use Rattle.run_words.specs.Layout.{size_of, lock_word}
-use Rattle.run_words.specs.Words.{graph_of}
-use Rattle.run_words.proofs.TakeFacts.{may_lock_after, held_then, refused_alone, refused_changed}
+use Rattle.std.proofs.Common.{arith, subst}
+use Rattle.run_words.specs.Plays.{takes_share}
 use Rattle.run_words.proofs.words.Words.take_share.Goals as goal
+use Rattle.run_words.proofs.AtKey.{take_share_step}
 
-pub returns-then-before-ge-HALF-clause-err : goal.returns-then-before-ge-HALF-clause-err
-returns-then-before-ge-HALF-clause-err c = λ v pending is.
-    refused_alone (graph_of c.args.self.now) c.args.line c.args.lock v pending c.args.place.now.me is c.requires.acquires c.look_at_lock-before.result c.look_at_lock-before.new.seat.me c.requires.shared c.if-before-ge-HALF.true c.look_at_lock-before.ensures.seen
+pub compare_exchange-requires : goal.compare_exchange-requires
+compare_exchange-requires c = (c.requires.at.0, omega (arith, c.args.self.now.sized.0, c.share_word-word.ensures.there), take_share_step c.args.self.now _ _ c.args.line c.args.c c.args.j _ c.requires.known.0 c.requires.known.1 c.requires.may _ c.share_word-word.ensures.word)
 
-pub share-requires-clause-may : goal.share-requires-clause-may
-share-requires-clause-may c = let t = c.requires.claimed in
-    may_lock_after (graph_of c.args.self.now) c.args.line c.args.lock c.look_at_lock-before.result t.0 t.1 c.args.place.now.me c.look_at_lock-before.new.seat.me t.2 c.look_at_lock-before.ensures.seen c.requires.acquires c.requires.real
-
-pub returns-then-share-before-clause-err : goal.returns-then-share-before-clause-err
-returns-then-share-before-clause-err c = λ v pending is.
-    refused_changed (graph_of c.args.self.now) c.args.line c.args.lock v pending c.args.place.now.me is c.requires.acquires c.look_at_lock-before.result c.share.result c.look_at_lock-before.new.seat.me c.share.new.seat.me c.requires.shared c.if-share-before.true
-    c.look_at_lock-before.ensures.seen (c.share.ensures.shares.1 c.if-share-before.true)
-
-pub returns-clause-ok : goal.returns-clause-ok
-returns-clause-ok c = λ v pending is. held_then c.args.line (lock_word (size_of (graph_of c.args.self.now)) c.args.lock) c.look_at_lock-before.result v pending c.args.place.now.me c.look_at_lock-before.new.seat.me c.share.new.seat.me is
-    c.look_at_lock-before.ensures.seen (c.share.ensures.shares.0 c.if-share-before.false)
+pub returns-clause-takes : goal.returns-clause-takes
+returns-clause-takes c = subst (λ k. takes_share k c.args.seat.now.me c.compare_exchange.result c.compare_exchange.new.seat.me) c.share_word-word.ensures.word c.compare_exchange.ensures.2

@@ -1,0 +1,3 @@
+mod AsBox
+mod Moving
+pub mod Public

@@ -1,0 +1,22 @@
+use Rattle.std.proofs.Common.{◌≡◌, ◌<◌, ◌≤◌, ◌+◌, length, IsSome, MatchOption, None, arith}
+use Rattle.index_spaces.specs.Held.{entries, held_at, lending_at, StandsAt}
+use Rattle.index_spaces.proofs.HeldFacts.{entries_length, share_is_found, stands_there}
+use Rattle.index_spaces.proofs.held.Held.take_share.Goals as goal
+
+pub unwrap-k-requires : goal.unwrap-k-requires
+unwrap-k-requires c =
+    let places = c.self.inside.places.items in
+    let found : MatchOption c.place_of.result (held_at (entries places) c.args.c ≡ None) (StandsAt places c.args.c) = rw c.as_slice.ensures.value at c.place_of.ensures in
+    let lent : IsSome (lending_at (entries places) c.args.c) = rw c.self.view_is c.requires in
+    share_is_found places c.args.c c.place_of.result found lent
+
+pub returns-clause-few : goal.returns-clause-few
+returns-clause-few c =
+    let places = c.self.inside.places.items in
+    let size = entries_length places c.self.invariant.taken in
+    let fits : length places ≤ 4 = rw c.as_slice.ensures.value at c.as_slice.ensures.fits in
+    let at : StandsAt places c.args.c c.unwrap-k.result = rw (c.unwrap-k.ensures, c.as_slice.ensures.value) at c.place_of.ensures in
+    let there = stands_there places c.args.c c.unwrap-k.result c.remove.result c.self.invariant at c.remove.ensures.value in
+    let less : length (entries c.remove.new.self.items) + 1 ≡ length (entries places) = rw c.remove.ensures.items there.number in
+    let few : length (entries c.remove.new.self.items) < 4 = omega arith in
+    few

@@ -1,0 +1,4 @@
+pub mod Lendings
+pub mod Shown
+pub mod Left
+pub mod Moved

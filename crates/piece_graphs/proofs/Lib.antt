@@ -1,0 +1,7 @@
+mod Spaces
+mod Search
+mod Chosen
+mod Numbers
+mod Naming
+mod Items
+mod InPieces

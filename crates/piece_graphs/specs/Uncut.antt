@@ -1,0 +1,27 @@
+-- Why the columns of a graph are not cut.
+use Rattle.std.specs.Prelude.{◌≡◌, ℕ, ◌<◌, ◌≤◌, ◌==◌, List, [], ◌∷◌, length, filter, Contains}
+use Rattle.piece_graphs.specs.declared.limits.TheConstants.{MAX_PIECES}
+use Rattle.graph_terms.specs.Graph.{GraphValue}
+use Rattle.graph_terms.specs.Fits.{IsGraph}
+use Rattle.column_pieces.specs.Pieces.{ArePieces, graph_of_pieces}
+use Rattle.column_pieces.specs.declared.pieces.Piece.{Piece}
+use Rattle.column_pieces.specs.declared.pieces.TheConstants.{MAX_COLUMN_PIECES}
+
+-- no piece stands twice in a list
+abbrev pub AreOnce : List Piece → Type 0
+AreOnce [] = Unit {0}
+AreOnce (x ∷ xs) = (Contains xs x → ⊥) × AreOnce xs
+
+-- no column has two of these pieces
+abbrev pub OneEach : List Piece → Type 0
+OneEach pieces = (x y : Piece) → Contains pieces x → Contains pieces y → x.column ≡ y.column → x ≡ y
+
+-- no column has more of these pieces than one is cut into
+abbrev pub FewEach : List Piece → Type 0
+FewEach pieces = (c : ℕ) → length (filter (λ (x : Piece). x.column == c) pieces) ≤ MAX_COLUMN_PIECES
+
+-- The columns of a graph are not cut: they have one piece each, or all have more pieces than a graph is cut into, or the graph of pieces is no graph.
+pub data IsUncut (g : GraphValue) : Type 0 where
+  whole : (pieces : List Piece) → ArePieces g pieces → OneEach pieces → IsUncut g
+  many : (pieces : List Piece) → ArePieces g pieces → AreOnce pieces → FewEach pieces → MAX_PIECES < length pieces → IsUncut g
+  unfit : (pieces : List Piece) → ArePieces g pieces → AreOnce pieces → FewEach pieces → (IsGraph (graph_of_pieces g pieces) → ⊥) → IsUncut g

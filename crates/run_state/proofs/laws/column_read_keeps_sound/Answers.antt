@@ -1,0 +1,5 @@
+use Rattle.run_state.proofs.LawFacts as laws
+use Rattle.run_state.proofs.laws.column_read_keeps_sound.Goals as goal
+
+pub returns : goal.returns
+returns c = laws.column_read_keeps_sound

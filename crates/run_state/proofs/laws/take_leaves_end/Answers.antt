@@ -1,0 +1,5 @@
+use Rattle.run_state.proofs.LawFacts as laws
+use Rattle.run_state.proofs.laws.take_leaves_end.Goals as goal
+
+pub returns : goal.returns
+returns c = laws.take_leaves_end

@@ -1,0 +1,106 @@
+//! The pieces into which the columns of a graph are cut, by the numbers of their columns and spaces.
+
+use column_pieces::pieces::Piece;
+use graph_reader::read_graph;
+use piece_graphs::cut_columns;
+use std::alloc::{AllocError, Global};
+use std::test::Fail;
+use test_texts::generated::numbered;
+
+/// Two columns whose spaces cross, and two tiles of a third.
+const CROSSED: &str =
+    "realm 3\nspace w 0..5\nspace low 0..3\nspace high 2..5\nspace left 0..2\nspace right 3..5\n\
+    inst a w x,y,z\nf = fill a.x low 1\ng = fill a.x high 2 on f\nh = fill a.y high 1\ni = fill a.y low 2 on h\n\
+    j = fill a.z right 1\nk = fill a.z left 1\nend\n";
+/// A tile within another one, and one beside it.
+const WITHIN: &str =
+    "realm 3\nspace w 0..5\nspace one 1..1\nspace left 0..2\nspace right 3..5\ninst a w x\n\
+    f = fill a.x one 1\ng = fill a.x left 2 on f\nh = fill a.x one 3 on g\ni = fill a.x right 4\nend\n";
+/// Each column is used over one space alone.
+const ONE_EACH: &str =
+    "realm 3\nspace w 0..5\nspace left 0..2\ninst a w x,y\nf = fill a.x left 1\ng = fill a.y left 1\nend\n";
+/// Two tiles, in a graph that has the name of the second piece.
+const NAMED: &str = "realm 3\nspace w 0..5\nspace Piece_aaab 0..2\nspace right 3..5\ninst a w x\n\
+    f = fill a.x Piece_aaab 1\ng = fill a.x right 1\nend\n";
+/// The same with the name of a third one.
+const NAMED_THIRD: &str =
+    "realm 3\nspace w 0..5\nspace Piece_aaac 0..2\nspace right 3..5\ninst a w x\n\
+    f = fill a.x Piece_aaac 1\ng = fill a.x right 1\nend\n";
+
+/// Whether the columns of a graph are cut into just these pieces: not at all where there are none.
+fn is_cut(alloc: Global, text: &str, wanted: &[(u32, u32)]) -> Result<bool, Fail> {
+    let graph = read_graph(alloc, text.as_bytes())?;
+    match cut_columns(alloc, &graph)? {
+        Some(cut) => Ok(are_same(&cut.pieces, wanted)),
+        None => Ok(wanted.is_empty()),
+    }
+}
+
+/// Whether pieces are of these columns, over these spaces.
+fn are_same(pieces: &[Piece], wanted: &[(u32, u32)]) -> bool {
+    pieces.len() == wanted.len()
+        && pieces.iter().zip(wanted).all(|(piece, want)| piece.column == want.0
+            && piece.space == want.1)
+}
+
+/// So many tiles of a column, and two of another one.
+fn tiles(alloc: Global, count: u32) -> Result<String, AllocError> {
+    let spaces = numbered(alloc, 65, "space t# #..#\n")?;
+    let fills = numbered(alloc, count, "f# = fill a.x t# 1\n")?;
+    format!(in alloc;
+        "realm 3\nspace w 0..64\n{spaces}inst a w x,y\n{fills}g = fill a.y t1 1\nh = fill a.y t0 1\nend\n"
+    )
+}
+
+/// Sixteen columns of 64 tiles, and some more lines.
+fn many_tiles(alloc: Global, more: &str) -> Result<String, AllocError> {
+    let spaces = numbered(alloc, 64, "space t# #..#\n")?;
+    let columns = numbered(alloc, 17, "inst a# w x\n")?;
+    let mut fills = String::new(alloc);
+    for column in 0..16u32 {
+        let digits = format!(in alloc; "{column}")?;
+        let one = numbered(alloc, 64, "f@_# = fill a@.x t# 1\n")?;
+        fills.push_str(one.replace(alloc, '@', digits.as_str())?.as_str())?;
+    }
+    format!(in alloc; "realm 3\nspace w 0..63\n{spaces}{columns}{fills}{more}end\n")
+}
+
+/// How many pieces a graph has; none where it is not cut.
+fn count(alloc: Global, text: &str) -> Result<usize, Fail> {
+    let graph = read_graph(alloc, text.as_bytes())?;
+    match cut_columns(alloc, &graph)? {
+        Some(cut) => Ok(cut.pieces.len()),
+        None => Ok(0),
+    }
+}
+
+#[test]
+fn pieces_of_small_graphs(rt: HostRuntime) -> Result<(), Fail> {
+    let alloc = rt.alloc();
+    assert!(rt; is_cut(alloc, CROSSED, &[(0, 0), (1, 0), (2, 4), (2, 3)])?);
+    assert!(rt; is_cut(alloc, WITHIN, &[(0, 2), (0, 3)])?);
+    assert!(rt; is_cut(alloc, ONE_EACH, &[])?);
+    assert!(rt; is_cut(alloc, NAMED, &[])?);
+    assert!(rt; is_cut(alloc, NAMED_THIRD, &[(0, 1), (0, 2)])?);
+    Ok(())
+}
+
+#[test]
+fn a_column_of_many_tiles_stays_whole(rt: HostRuntime) -> Result<(), Fail> {
+    let alloc = rt.alloc();
+    let text = tiles(alloc, 65)?;
+    assert!(rt; is_cut(alloc, text.as_str(), &[(0, 0), (1, 2), (1, 1)])?);
+    let text = tiles(alloc, 64)?;
+    assert_eq!(rt; count(alloc, text.as_str())?, 66);
+    Ok(())
+}
+
+#[test]
+fn no_column_is_cut_where_pieces_are_too_many(rt: HostRuntime) -> Result<(), Fail> {
+    let alloc = rt.alloc();
+    let text = many_tiles(alloc, "")?;
+    assert_eq!(rt; count(alloc, text.as_str())?, 1024);
+    let text = many_tiles(alloc, "g = fill a16.x t0 1\n")?;
+    assert_eq!(rt; count(alloc, text.as_str())?, 0);
+    Ok(())
+}

@@ -1,0 +1,2 @@
+pub mod ShareFields
+pub mod LendingSteps
