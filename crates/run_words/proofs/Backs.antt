@@ -12,16 +12,16 @@ use Rattle.graph_terms.specs.declared.outcome.End.TheVariants.{Done, Faulted, Ca
 use Rattle.index_spaces.specs.Held.{HeldList}
 use Rattle.graph_terms.specs.Graph.{GraphValue}
 use Rattle.graph_terms.specs.Reservations.{Releases}
-use Rattle.run_words.specs.declared.content.Content.{Content}
-use Rattle.run_words.specs.declared.content.Content.TheVariants.{EventReceipt}
-use Rattle.run_words.specs.declared.view.View.{View}
-use Rattle.run_words.specs.Claims.{Claim}
-use Rattle.run_words.specs.Rule.{end_code, fate_for}
-use Rattle.run_words.specs.Plays.{Sat, closed_at, closes, end_of_code}
-use Rattle.run_words.specs.Premises.{Has, IsOver, HasNoRights, OnTop}
-use Rattle.run_words.specs.Laden.{Laden, WorkDone, IsEnding, IsReleased}
+use Rattle.word_steps.specs.declared.content.Content.{Content}
+use Rattle.word_steps.specs.declared.content.Content.TheVariants.{EventReceipt}
+use Rattle.word_steps.specs.declared.view.View.{View}
+use Rattle.word_steps.specs.Claims.{Claim}
+use Rattle.word_steps.specs.Rule.{end_code, fate_for}
+use Rattle.word_steps.specs.Plays.{Sat, closed_at, closes, end_of_code}
+use Rattle.word_steps.specs.Premises.{Has, IsOver, HasNoRights, OnTop}
+use Rattle.word_loads.specs.Laden.{Laden, WorkDone, IsEnding, IsReleased}
 use Rattle.run_words.specs.Works.{event_of, DidNothing}
-use Rattle.run_words.proofs.Looks.{code_end}
+use Rattle.word_steps.proofs.Public.{code_end}
 
 -- the handle of the line whose work is done
 laden_event : (g : GraphValue) (line k : ℕ) (v : View) (cl : Claim) (left : List (ℕ × Content)) (m : Sat) (held : HeldList) (numbers : List ℕ) → Laden g line k v cl left m held numbers → event_of m.0.claim ≡ Some cl.event

@@ -7,8 +7,8 @@ use Rattle.shared_events.specs.Seats.{HasSeen, Keeps, no_event}
 use Rattle.shared_events.specs.Views.{lists, IsAt, IsMakerOf, made_by}
 use Rattle.event_table.specs.declared.handle.Handle.{Handle}
 use Rattle.shared_events.specs.declared.events.Events.{Events}
-use Rattle.run_words.specs.declared.content.IssueState.{IssueState}
-use Rattle.run_words.specs.Rule.{IsIssueState}
+use Rattle.word_steps.specs.declared.content.IssueState.{IssueState}
+use Rattle.word_steps.specs.Rule.{IsIssueState}
 
 pub issue_state_more : (e : Events) (n : ℕ) (hs : List Handle) (d d' : IssueState) (h : Handle) → IsIssueState e n hs d → IsMakerOf e d'.maker → made_by d'.maker ≡ made_by d.maker ++ h ∷ [] → d'.handles.items ≡ d.handles.items ++ h ∷ [] → vec_capacity d.handles ≤ vec_capacity d'.handles
     → IsAt e d'.seat → Keeps (lists d.seat) (lists d'.seat) → HasSeen (lists d'.seat) h → h ≢ no_event → d'.waiters ≡ d.waiters → IsIssueState e n (hs ++ h ∷ []) d'

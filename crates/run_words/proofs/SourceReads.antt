@@ -15,15 +15,11 @@ use Rattle.graph_terms.specs.Edges.{edges, edges_into}
 use Rattle.graph_meaning.specs.Evaluation.{eval_end, cancels}
 use Rattle.graph_terms.specs.Fits.{IsGraph}
 use Rattle.graph_meaning.specs.Laws.{EdgesBetweenLines}
+use Rattle.word_steps.proofs.Public.{ended_shown}
 use Rattle.basics.proofs.ListFacts.{filter_contains, contains_filter, contains_here, contains_none}
 use Rattle.run_words.specs.declared.sources.Sources.{Sources}
-use Rattle.run_words.specs.Plays.{Sat, looked_at, end_of_code, issued_by, ended_by}
+use Rattle.word_steps.specs.Plays.{Sat, looked_at, end_of_code, issued_by, ended_by, sat}
 use Rattle.run_words.specs.Sources.{Learns, lesser, either, Reads, LeastOf, cancels_in, AreRead, IsLeastFound}
-use Rattle.run_words.proofs.Turns.{sat}
-
-by_bool : (b : Bool) → (b ≡ true) ⊎ (b ≡ false)
-by_bool true = inl refl
-by_bool false = inr refl
 
 abbrev pub no_edge : Edge
 no_edge = record { from = 0; to = 0; kind = Passes }
@@ -46,12 +42,6 @@ learns_more m n o found i r l q = (
   q ∙ (ap (λ (y : Sat). sat (looked_at y.0 i r) y.1) l.2
       ∙ (λ t. (record m.0 { issued = append_assoc m.0.issued l.0 (issued_by i r) t; ended = append_assoc m.0.ended l.1 (ended_by i r) t; saw = append_assoc m.0.saw found ((i, r) ∷ []) t }, m.1))),
 )
-
-pub ended_shown : (j r : ℕ) → 8 ≤ r → Contains (ended_by j r) (j, end_of_code (r - 8))
-ended_shown j r h = ⊎_elim
-    (λ (q : nat_lt r 8 ≡ true). let less = ltb-true r 8 q in absurd (omega (arith, h, less)))
-    (λ (q : nat_lt r 8 ≡ false). subst (λ b. Contains {X = ℕ × End} (cond b [] ((j, end_of_code (r - 8)) ∷ [])) (j, end_of_code (r - 8))) (sym q) (contains_here {X = ℕ × End} (j, end_of_code (r - 8)) []))
-    (by_bool (nat_lt r 8))
 
 -- ONE SOURCE MORE
 keeps_known : (ended new : List (ℕ × End)) (j : ℕ) → (x : End) × Contains ended (j, x) → (x : End) × Contains (ended ++ new) (j, x)

@@ -19,27 +19,27 @@ use Rattle.basics.proofs.ListFacts.{contains_here, contains_none}
 use Rattle.run_state.proofs.Public.{cancelled_iff}
 use Rattle.run_parts.specs.declared.answers.Thing.{Thing}
 use Rattle.run_parts.specs.declared.answers.Thing.TheVariants as things
-use Rattle.run_words.specs.declared.content.Content.{Content}
-use Rattle.run_words.specs.declared.content.IssueState.{IssueState}
-use Rattle.run_words.specs.declared.content.Content.TheVariants.{PendingEvent}
-use Rattle.run_words.specs.declared.view.View.{View}
+use Rattle.word_steps.specs.declared.content.Content.{Content}
+use Rattle.word_steps.specs.declared.content.IssueState.{IssueState}
+use Rattle.word_steps.specs.declared.content.Content.TheVariants.{PendingEvent}
+use Rattle.word_steps.specs.declared.view.View.{View}
 use Rattle.run_words.specs.declared.words.Words.{Words}
-use Rattle.run_words.specs.Claims.{Claim, new_claim}
-use Rattle.run_words.specs.Layout.{size_of, lock_word, half, alone_code}
+use Rattle.word_steps.specs.Claims.{Claim, new_claim}
+use Rattle.word_steps.specs.Layout.{size_of, lock_word, half, alone_code}
 use Rattle.std.proofs.lemmas.List.{append-nil}
 use Rattle.run_words.specs.declared.works.WordWork.{WordWork}
 use Rattle.run_words.specs.Works.{IsWorkOf, DidNothing, event_of}
 use Rattle.run_words.specs.Words.{graph_of, events_of, IsSeatOf}
-use Rattle.run_words.specs.Rule.{ground_of, child}
-use Rattle.run_words.specs.Plays.{Sat, HasClaimed, missed, claimed_at, saw_at, saw_all, on_claim, holding, let_go_at, lets_go, gave_up_at, unclaims, child_of, parent_of, joined, looked_at, own_number}
-use Rattle.run_words.specs.Premises.{Has, MayLock, IsBare, OnTop}
+use Rattle.word_steps.specs.Rule.{ground_of, child}
+use Rattle.word_steps.specs.Plays.{Sat, HasClaimed, missed, claimed_at, saw_at, saw_all, on_claim, holding, let_go_at, lets_go, gave_up_at, unclaims, child_of, parent_of, joined, looked_at, own_number, sat}
+use Rattle.word_steps.specs.Premises.{Has, MayLock, IsBare, OnTop}
 use Rattle.run_words.specs.Sources.{cancels_in}
-use Rattle.run_words.specs.Laden.{Seen, Taking}
-use Rattle.run_words.specs.declared.loads.Load.{Load}
-use Rattle.run_words.specs.Attempts.{IsClaimed, IsHeldAfter, IsLoaded, IsRefused, HasAllOf, IsRefusedAll, IsColumn, LetGoFor}
+use Rattle.word_loads.specs.Laden.{Seen, Taking}
+use Rattle.word_loads.specs.declared.loads.Load.{Load}
+use Rattle.run_words.specs.Attempts.{IsClaimed, IsHeldAfter, HasAllOf, IsRefusedAll, LetGoFor}
+use Rattle.word_loads.specs.Refusals.{IsLoaded, IsRefused, IsColumn}
 use Rattle.run_words.proofs.AnswerFacts.{busy_later}
-use Rattle.run_words.proofs.TakingTurn.{has_key}
-use Rattle.run_words.proofs.Turns.{sat}
+use Rattle.word_steps.proofs.Public.{has_key}
 
 abbrev Left : Type 0
 Left = List (ℕ × Content)

@@ -1,24 +1,19 @@
 -- What the calls that move the issue state rest on.
 use Rattle.std.proofs.Common.{◌≡◌, ℕ, ◌≤◌, List, [], ◌∷◌, ◌++◌, length, sym, ◌∙◌, ap, subst}
-use Rattle.std.specs.Prelude.{Contains, Some, None, option_map}
+use Rattle.std.specs.Prelude.{Contains, Some, None}
 use Rattle.event_table.specs.declared.handle.Handle.{Handle}
 use Rattle.shared_events.specs.declared.events.Events.{Events}
-use Rattle.basics.proofs.ListFacts.{contains_here}
 use Rattle.graph_terms.specs.Graph.{GraphValue}
-use Rattle.run_words.specs.declared.content.Content.{Content}
-use Rattle.run_words.specs.declared.content.Content.TheVariants.{Nothing, PendingEvent, EventReceipt, Cells, Lent, Share, Issuer}
-use Rattle.run_words.specs.declared.content.IssueState.{IssueState}
-use Rattle.run_words.specs.declared.view.View.{View}
-use Rattle.shared_events.specs.declared.tokens.Pending.{Pending}
-use Rattle.run_words.specs.Claims.{Ground, Claim}
-use Rattle.run_words.specs.Layout.{size_of, issue_turn_slot}
-use Rattle.run_words.specs.Rule.{ground_of, IsIssueState}
+use Rattle.word_steps.specs.declared.content.Content.{Content}
+use Rattle.word_steps.specs.declared.content.Content.TheVariants.{Nothing, PendingEvent, EventReceipt, Cells, Lent, Share, Issuer}
+use Rattle.word_steps.specs.declared.content.IssueState.{IssueState}
+use Rattle.word_steps.specs.declared.view.View.{View}
+use Rattle.word_steps.specs.Claims.{Ground}
+use Rattle.word_steps.specs.Layout.{size_of, issue_turn_slot}
+use Rattle.word_steps.specs.Rule.{ground_of, IsIssueState}
 use Rattle.std.proofs.lemmas.List.{append-nil}
-use Rattle.run_words.specs.Plays.{Sat, HasIssueTurn, with_issue_turn, without_issue_turn, after_issue, on_claim}
-use Rattle.run_words.proofs.Turns.{sat}
-
-pub has_key : (l : List Ground) (x : Ground) → l ≡ x ∷ [] → Contains l x
-has_key l x q = subst (λ k. Contains k x) (sym q) (contains_here x [])
+use Rattle.word_steps.proofs.Public.{has_key}
+use Rattle.word_steps.specs.Plays.{Sat, HasIssueTurn, with_issue_turn, without_issue_turn, after_issue, sat}
 
 abbrev pub issue_state_in : IssueState → Content → IssueState
 issue_state_in d (Issuer x) = x
@@ -75,19 +70,3 @@ issue_chain v hand a b d hs hs' issue_state laid new slot p q r =
 
 pub unchanged : (v : View) (hs : List Handle) → v.issuing ≡ None → v.issue_turn ≡ Some hs → v ≡ after_issue v [] hs
 unchanged v hs p q = let n : v.issued ≡ v.issued ++ [] = sym (append-nil v.issued) in λ k. record v { issued = n k; issuing = p k; issue_turn = q k }
-
--- the event that was taken out
-abbrev pub pending_in : Pending → Content → Pending
-pending_in p (PendingEvent x) = x
-pending_in p Nothing = p
-pending_in p (Issuer x) = p
-pending_in p (EventReceipt x) = p
-pending_in p (Cells x) = p
-pending_in p (Lent x) = p
-pending_in p (Share x) = p
-
-pub pending_one : (p q : Pending) → PendingEvent p ≡ PendingEvent q → p ≡ q
-pending_one p q e = ap (pending_in p) e
-
-pub claim_after : (f : Claim → Claim) (v : View) (c : Claim) → v.claim ≡ Some c → (on_claim f v).claim ≡ Some (f c)
-claim_after f v c q = ap (option_map f) q

@@ -4,26 +4,26 @@ use Rattle.atomic_table.specs.declared.shared.Seat as table
 use Rattle.graph_terms.specs.Graph.{GraphValue}
 use Rattle.shared_events.specs.declared.events.Events.{Events}
 use Rattle.event_table.specs.declared.handle.Handle.{Handle}
-use Rattle.run_words.specs.declared.content.Content.{Content}
-use Rattle.run_words.specs.declared.view.View.{View}
+use Rattle.word_steps.specs.declared.content.Content.{Content}
+use Rattle.word_steps.specs.declared.view.View.{View}
 use Rattle.run_words.specs.declared.words.Words.{Words}
 use Rattle.run_words.specs.declared.seats.WordSeat.{WordSeat}
 use Rattle.shared_events.specs.declared.tokens.Seat.{Seat}
 use Rattle.shared_events.specs.Views as events
 use Rattle.graph_terms.specs.declared.outcome.End.{End}
-use Rattle.run_words.specs.Rule.{ground_of}
+use Rattle.word_steps.specs.Table as steps
 
 -- the graph of these words
 abbrev pub graph_of : Words → GraphValue
-graph_of w = w.base.checked.now.graph
+graph_of w = steps.graph_of w.table
 
 -- the events of its lines
 abbrev pub events_of : Words → Events
-events_of w = w.base.events
+events_of w = steps.events_of w.table
 
 -- the seat is one of these words
 abbrev pub IsSeatOf : Words → table.Seat Content View → Type 0
-IsSeatOf w s = (s.table_id ≡ w.table.shared.table_id) × (s.me.0.keys ≡ ground_of (graph_of w) (events_of w) ∷ [])
+IsSeatOf w s = steps.IsSeatOf w.table s
 
 -- the seat of a thread is one of these words
 abbrev pub IsAt : Words → WordSeat → Type 0

@@ -6,27 +6,23 @@ ghost use Rattle.graph_terms.specs.declared.outcome.End.{End as TheEnd};
 ghost use Rattle.event_table.specs.declared.handle.Handle.{Handle as TheHandle};
 ghost use Rattle.shared_events.specs.Seats.{Grows, Keeps, SamePlacings};
 ghost use Rattle.shared_events.specs.Views.{shape_of, lists};
-ghost use Rattle.run_words.specs.declared.content.Content.{Content as TheContent};
-ghost use Rattle.run_words.specs.declared.content.Content.TheVariants.{Nothing, Issuer};
-ghost use Rattle.run_words.specs.declared.content.IssueState.{IssueState as TheIssueState};
+ghost use Rattle.word_steps.specs.declared.content.Content.{Content as TheContent};
+ghost use Rattle.word_steps.specs.declared.content.Content.TheVariants.{Nothing, Issuer};
+ghost use Rattle.word_steps.specs.declared.content.IssueState.{IssueState as TheIssueState};
 ghost use Rattle.run_words.specs.Issuing.{AllPending};
-ghost use Rattle.run_words.specs.Layout.{size_of, issue_turn_slot, issue_turn_word};
-ghost use Rattle.run_words.specs.Plays.{issued_at, without_issue, with_issue_turn, without_issue_turn, missed, after_issue};
-ghost use Rattle.run_words.specs.Premises.{IsNumbered};
-ghost use Rattle.run_words.specs.Rule.{IsIssueState};
+ghost use Rattle.word_steps.specs.Layout.{size_of, issue_turn_slot, issue_turn_word};
+ghost use Rattle.word_steps.specs.Plays.{issued_at, without_issue, with_issue_turn, without_issue_turn, missed, after_issue};
+ghost use Rattle.word_steps.specs.Premises.{IsNumbered};
+ghost use Rattle.word_steps.specs.Rule.{IsIssueState};
 ghost use Rattle.run_words.specs.Standing.{KeepsWaiters, IssuesInTurn, IsStill};
-ghost use Rattle.share_words.specs.Shares.{AreShares};
 ghost use Rattle.run_words.specs.Words.{graph_of, events_of, IsSeatOf, IsAt, KnowsIssued, KnowsEnded, KnowsHandles, IsEventSeat, FoundTaken, events_seat, numbers_of, splits_of};
 
-use crate::content::{BoxedIssueState, Content, IssueState};
-use crate::moves::Place;
 use crate::seats::WordSeat;
 use crate::words::Words;
 use event_table::Handle;
-use graph_model::graph::Graph;
 use run_parts::Issue;
-use share_words::ShareCounts;
 use shared_events::Seat;
+use word_steps::{BoxedIssueState, Content, IssueState, Place, issue_state_of};
 
 /// Puts a handle at the end of a list that has room for it.
 fn push_within(handles: &mut Vec<Handle>, handle: Handle)
@@ -40,34 +36,7 @@ fn push_within(handles: &mut Vec<Handle>, handle: Handle)
     }
 }
 
-/// The issue state.
-pub(crate) fn issue_state_of(content: Content) -> BoxedIssueState
-    requires { (d : TheIssueState) × (content ≡ Issuer d) }
-    ensures { content ≡ Issuer result }
-{
-    let Content::Issuer(issue_turn) = content else {
-        unreachable!()
-    };
-    issue_turn
-}
-
-/// The slot of the issue state.
-pub(crate) fn issue_turn_slot(graph: &Graph, shares: &ShareCounts) -> usize
-    requires { AreShares graph.now shares.now }
-    ensures { result ≡ issue_turn_slot (size_of graph.now) }
-{
-    let columns = graph.columns() as usize;
-    graph.lines() as usize + columns + shares.planes() as usize * columns
-}
-
 impl<'g> Words<'g> {
-    /// The slot of the issue state.
-    pub(crate) fn issue_turn_slot(&self) -> usize
-        ensures { result ≡ issue_turn_slot (size_of (graph_of self.now)) }
-    {
-        self.issue_slot
-    }
-
     /// Issues the next line, in the issue turn and with the issue state. False comes where
     /// each event slot was found pending. Nobody else issues in this turn, so the line is
     /// claimed at the first try.
@@ -98,19 +67,23 @@ impl<'g> Words<'g> {
             × (seat.new.me ≡ (without_issue seat.old.me.0, seat.old.me.1))
             × AllPending (shape_of (events_of self.now)) issue_turn.new.handles.items (lists events.old) (lists events.new) }
     {
-        self.begin_issue(seat, line);
-        match self.base.events.create(&mut issue_turn.maker, events) {
+        self.table.begin_issue(seat, line);
+        match self.table.base.events.create(&mut issue_turn.maker, events) {
             Some(mut pending) => {
                 // The seat in the issue state has then seen the handles of all issued lines, as who watches
                 // one must.
-                self.base.events.see(&mut issue_turn.seat, &mut pending);
+                self.table
+                    .base
+                    .events
+                    .see(&mut issue_turn.seat, &mut pending);
                 push_within(&mut issue_turn.handles, pending.handle());
-                self.put_in(seat, line as usize, Content::PendingEvent(pending));
-                self.store_issue(seat, line);
+                self.table
+                    .put_in(seat, line as usize, Content::PendingEvent(pending));
+                self.table.store_issue(seat, line);
                 true
             }
             None => {
-                self.give_up_issue(seat, line);
+                self.table.give_up_issue(seat, line);
                 false
             }
         }
@@ -129,11 +102,11 @@ impl<'g> Words<'g> {
             ≡ (with_issue_turn seat.old.me.0 d.handles.items d, (issue_turn_slot (size_of (graph_of self.now)), Nothing) ∷ seat.old.me.1)) }
         ensures none { IfNone result ((r : ℕ) × (r ≢ 0) × missed (issue_turn_word (size_of (graph_of self.now))) seat.old.me r seat.new.me) }
     {
-        if self.take_issue_turn(seat) != 0 {
+        if self.table.take_issue_turn(seat) != 0 {
             return None;
         }
-        let slot = self.issue_turn_slot();
-        Some(issue_state_of(self.take_out(seat, slot)))
+        let slot = self.table.issue_turn_slot();
+        Some(issue_state_of(self.table.take_out(seat, slot)))
     }
 
     /// Puts the issue state back and gives its turn.
@@ -147,9 +120,9 @@ impl<'g> Words<'g> {
         ensures given { (left : List (ℕ × TheContent)) → seat.old.me.1 ≡ (issue_turn_slot (size_of (graph_of self.now)), Nothing) ∷ left
             → seat.new.me ≡ (without_issue_turn seat.old.me.0 (issue_turn ∷ []), left) }
     {
-        let slot = self.issue_turn_slot();
-        self.put_in(seat, slot, Content::Issuer(issue_turn));
-        self.give_issue_turn(seat);
+        let slot = self.table.issue_turn_slot();
+        self.table.put_in(seat, slot, Content::Issuer(issue_turn));
+        self.table.give_issue_turn(seat);
     }
 
     /// Issues the next line, if one is left, in the issue turn.
@@ -183,7 +156,7 @@ impl<'g> Words<'g> {
         ensures same { result ≡ Issue.NoSlot → issue_turn.new.handles.items ≡ issue_turn.old.handles.items }
         ensures not_other { result ≡ Issue.Other → ⊥ }
     {
-        let lines = self.base.checked.graph().lines();
+        let lines = self.table.base.checked.graph().lines();
         let line = issue_turn.handles.len() as u32;
         if line >= lines {
             return Issue::All;

@@ -1,4 +1,4 @@
-use Rattle.run_words.proofs.Rejoining.{all_at_first}
+use Rattle.run_words.proofs.Public.{all_at_first}
 use Rattle.embedded_run.proofs.running.run_checked.Goals as goal
 
 pub run_free-requires-clause-all : goal.run_free-requires-clause-all

@@ -3,7 +3,7 @@ use Rattle.std.specs.Prelude.{slice_get}
 use Rattle.graph_terms.specs.Graph.{GraphValue}
 use Rattle.graph_meaning.specs.Evaluation.{outcome}
 use Rattle.graph_meaning.specs.Trace.{IsLawful, SectionsApart}
-use Rattle.run_words.proofs.Rejoining.{all_still}
+use Rattle.run_words.proofs.Public.{all_still}
 use Rattle.free_engine.proofs.engine.run_free.Goals as goal
 
 pub core_of-core-requires-clause-all : goal.core_of-core-requires-clause-all

@@ -1,4 +1,4 @@
-use Rattle.run_words.proofs.Rejoining.{rejoined_both}
+use Rattle.run_words.proofs.Public.{rejoined_both}
 use Rattle.free_engine.proofs.workers.+workers.Goals as goal
 
 pub run_workers-returns-clause-back : goal.run_workers-returns-clause-back

@@ -1,4 +1,4 @@
-use Rattle.run_words.proofs.Rejoining.{rejoined_same, rejoined_further}
+use Rattle.run_words.proofs.Public.{rejoined_same, rejoined_further}
 use Rattle.free_engine.proofs.workers.go_on.Goals as goal
 
 pub returns-in_default-clause-back : goal.returns-in_default-clause-back

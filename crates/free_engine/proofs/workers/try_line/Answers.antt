@@ -1,4 +1,4 @@
-use Rattle.run_words.proofs.Rejoining.{rejoined_at_first, rejoined_after, rejoined_back}
+use Rattle.run_words.proofs.Public.{rejoined_at_first, rejoined_after, rejoined_back}
 use Rattle.free_engine.proofs.workers.try_line.Goals as goal
 
 pub returns-in-Taken-clause-back : goal.returns-in-Taken-clause-back

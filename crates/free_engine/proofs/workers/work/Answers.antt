@@ -1,4 +1,4 @@
-use Rattle.run_words.proofs.Rejoining.{rejoined_further}
+use Rattle.run_words.proofs.Public.{rejoined_further}
 use Rattle.free_engine.proofs.workers.work.Goals as goal
 
 pub returns-then-not-go_on-clause-back : goal.returns-then-not-go_on-clause-back

@@ -1,7 +1,7 @@
 use Rattle.std.proofs.Common.{◌≡◌, ◌<◌, ℕ, Some, length, subst}
 use Rattle.std.specs.Prelude.{slice_get}
 use Rattle.graph_terms.specs.Graph.{GraphValue}
-use Rattle.run_words.proofs.Rejoining.{all_at_first}
+use Rattle.run_words.proofs.Public.{all_at_first}
 use Rattle.realm_top.proofs.running.run_with_homes.Goals as goal
 
 pub run_free-requires-clause-all : goal.run_free-requires-clause-all

@@ -1,4 +1,4 @@
-use Rattle.run_words.proofs.Rejoining.{all_at_first}
+use Rattle.run_words.proofs.Public.{all_at_first}
 use Rattle.run_tests.proofs.prepared.prepared.Goals as goal
 
 pub returns-clause-all : goal.returns-clause-all

@@ -1,4 +1,4 @@
-use Rattle.run_words.proofs.Rejoining.{rejoined_further, rejoined_at_first, rejoined_after}
+use Rattle.run_words.proofs.Public.{rejoined_further, rejoined_at_first, rejoined_after}
 use Rattle.run_tests.proofs.word_tests.+take_from.Goals as goal
 
 pub returns-then-place-lines-clause-back : goal.returns-then-place-lines-clause-back

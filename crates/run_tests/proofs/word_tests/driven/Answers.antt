@@ -1,4 +1,4 @@
-use Rattle.run_words.proofs.Rejoining.{all_still}
+use Rattle.run_words.proofs.Public.{all_still}
 use Rattle.run_tests.proofs.word_tests.driven.Goals as goal
 
 pub closed-requires-clause-all : goal.closed-requires-clause-all

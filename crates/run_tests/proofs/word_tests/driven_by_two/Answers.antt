@@ -1,4 +1,4 @@
-use Rattle.run_words.proofs.Rejoining.{all_still, rejoined_both}
+use Rattle.run_words.proofs.Public.{all_still, rejoined_both}
 use Rattle.run_tests.proofs.word_tests.driven_by_two.Goals as goal
 
 pub closed-requires-clause-all : goal.closed-requires-clause-all

@@ -1,4 +1,4 @@
-use Rattle.run_words.proofs.Rejoining.{rejoined_at_first, rejoined_further, rejoined_same}
+use Rattle.run_words.proofs.Public.{rejoined_at_first, rejoined_further, rejoined_same}
 use Rattle.run_tests.proofs.word_tests.issue_all.Goals as goal
 
 pub loop-turn-init : goal.loop-turn-init

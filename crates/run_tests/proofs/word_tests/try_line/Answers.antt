@@ -1,4 +1,4 @@
-use Rattle.run_words.proofs.Rejoining.{rejoined_back}
+use Rattle.run_words.proofs.Public.{rejoined_back}
 use Rattle.run_tests.proofs.word_tests.try_line.Goals as goal
 
 pub returns-in-Taken-clause-work : goal.returns-in-Taken-clause-work

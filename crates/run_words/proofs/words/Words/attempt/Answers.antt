@@ -5,7 +5,7 @@ use Rattle.std.proofs.lemmas.List.Elements.{Contains-append_left}
 use Rattle.basics.proofs.ListFacts.{contains_here}
 use Rattle.graph_terms.specs.declared.outcome.End.{End}
 use Rattle.graph_terms.specs.Graph.{GraphValue, never_comes}
-use Rattle.run_words.specs.Plays.{Sat}
+use Rattle.word_steps.specs.Plays.{Sat}
 use Rattle.shared_events.specs.Views.{lists}
 use Rattle.run_words.proofs.AnswerFacts.{answered}
 use Rattle.run_words.proofs.Growing.{grows_same}

@@ -1,9 +1,8 @@
 use Rattle.std.proofs.Common.{ℕ, ◌∷◌, ap, sym, ◌∙◌}
 use Rattle.atomic_table.specs.Table.{rest}
-use Rattle.run_words.specs.Plays.{Sat, without_issue_turn, issue_states_in}
+use Rattle.word_steps.specs.Plays.{Sat, without_issue_turn, issue_states_in, sat}
 use Rattle.run_words.proofs.TakingTurn.{pair}
-use Rattle.run_words.proofs.Turns.{sat}
-use Rattle.run_words.specs.declared.content.Content.TheVariants.{Nothing, Issuer}
+use Rattle.word_steps.specs.declared.content.Content.TheVariants.{Nothing, Issuer}
 use Rattle.run_words.proofs.words.Words.give_issue_state.Goals as goal
 
 pub give_issue_turn-requires-clause-may : goal.give_issue_turn-requires-clause-may

@@ -6,8 +6,8 @@ use Rattle.graph_terms.specs.declared.outcome.End.{End}
 use Rattle.basics.proofs.ListFacts.{contains_below, contains_here}
 use Rattle.basics.specs.Lists.{numbers_below}
 use Rattle.event_table.specs.declared.handle.Handle.{Handle}
-use Rattle.run_words.specs.declared.content.IssueState.{IssueState}
-use Rattle.run_words.specs.Plays.{Sat, with_issue_turn, after_issue}
+use Rattle.word_steps.specs.declared.content.IssueState.{IssueState}
+use Rattle.word_steps.specs.Plays.{Sat, with_issue_turn, after_issue}
 use Rattle.shared_events.specs.Views.{lists}
 use Rattle.run_words.proofs.TakingTurn.{issue_chain}
 use Rattle.run_words.proofs.Growing.{grows_same}

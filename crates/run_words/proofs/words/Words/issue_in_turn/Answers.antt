@@ -2,10 +2,9 @@ use Rattle.std.proofs.Common.{arith, ◌≡◌, ℕ, ◌<◌, [], ◌∷◌, len
 use Rattle.std.specs.Prelude.{Contains}
 use Rattle.std.proofs.lemmas.List.Elements.{Contains-append_right}
 use Rattle.basics.proofs.ListFacts.{contains_here}
-use Rattle.run_words.specs.declared.view.View.{View}
+use Rattle.word_steps.specs.declared.view.View.{View}
 use Rattle.run_words.specs.Words.{graph_of}
-use Rattle.run_words.specs.Plays.{Sat}
-use Rattle.run_words.proofs.Turns.{sat}
+use Rattle.word_steps.specs.Plays.{Sat, sat}
 use Rattle.shared_events.specs.Views.{lists}
 use Rattle.run_words.proofs.TakingTurn.{unchanged}
 use Rattle.run_words.proofs.Growing.{grows_same}

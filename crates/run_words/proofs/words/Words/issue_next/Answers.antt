@@ -6,8 +6,8 @@ use Rattle.shared_events.specs.Seats.{HasSeen}
 use Rattle.shared_events.specs.Views.{handle_of, made_by, lists, shape_of, IsFull, GoesRound}
 use Rattle.basics.proofs.ListFacts.{contains_here}
 use Rattle.run_words.specs.Words.{graph_of, events_of}
-use Rattle.run_words.specs.declared.content.IssueState.{IssueState}
-use Rattle.run_words.specs.Rule.{IsIssueState}
+use Rattle.word_steps.specs.declared.content.IssueState.{IssueState}
+use Rattle.word_steps.specs.Rule.{IsIssueState}
 use Rattle.run_words.proofs.PendingSlots.{all_pending}
 use Rattle.run_words.proofs.IssueStates.{issue_state_more, issue_state_same}
 use Rattle.run_words.proofs.words.Words.issue_next.Goals as goal

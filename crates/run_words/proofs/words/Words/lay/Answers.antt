@@ -1,6 +1,6 @@
 use Rattle.std.proofs.Common.{◌≡◌, ◌<◌, length, sym, ◌∙◌, subst}
 use Rattle.std.specs.Prelude.{Some, slice_get, slice_set}
-use Rattle.run_words.proofs.SetFacts.{set_get, set_get_other}
+use Rattle.basics.proofs.ListFacts.{set_get, set_get_other}
 use Rattle.run_words.specs.Words.{graph_of}
 use Rattle.run_words.proofs.words.Words.lay.Goals as goal
 

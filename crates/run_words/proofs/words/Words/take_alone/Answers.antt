@@ -1,7 +1,7 @@
 use Rattle.std.proofs.Common.{refl, ap}
 use Rattle.shared_events.specs.Views.{handle_of}
-use Rattle.run_words.specs.Claims.{new_claim}
-use Rattle.run_words.specs.Plays.{Sat}
+use Rattle.word_steps.specs.Claims.{new_claim}
+use Rattle.word_steps.specs.Plays.{Sat}
 use Rattle.run_words.specs.Words.{graph_of}
 use Rattle.run_words.proofs.TakeFacts.{may_lock, held_at_once, refused_held_lock}
 use Rattle.run_words.proofs.words.Words.take_alone.Goals as goal

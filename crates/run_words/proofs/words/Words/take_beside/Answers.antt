@@ -1,4 +1,4 @@
-use Rattle.run_words.specs.Layout.{size_of, lock_word}
+use Rattle.word_steps.specs.Layout.{size_of, lock_word}
 use Rattle.run_words.specs.Words.{graph_of}
 use Rattle.run_words.proofs.TakeFacts.{may_lock_after, held_then, refused_alone, refused_changed}
 use Rattle.run_words.proofs.words.Words.take_beside.Goals as goal

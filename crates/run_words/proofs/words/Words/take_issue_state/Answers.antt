@@ -1,5 +1,5 @@
 use Rattle.std.proofs.Common.{ℕ, ◌∷◌, ap, sym, ◌∙◌}
-use Rattle.run_words.specs.declared.content.Content.TheVariants.{Nothing, Issuer}
+use Rattle.word_steps.specs.declared.content.Content.TheVariants.{Nothing, Issuer}
 use Rattle.run_words.specs.Words.{graph_of, events_of}
 use Rattle.run_words.proofs.TakingTurn.{keys, on_top, issue_state, few, with, pair}
 use Rattle.run_words.proofs.words.Words.take_issue_state.Goals as goal

@@ -1,9 +1,9 @@
 use Rattle.std.proofs.Common.{◌≡◌, refl, sym, ap, subst}
 use Rattle.atomic_table.specs.declared.shared.Seat as table
-use Rattle.run_words.specs.declared.content.Content.{Content}
-use Rattle.run_words.specs.declared.view.View.{View}
-use Rattle.run_words.specs.Plays.{Sat, looked_at}
-use Rattle.run_words.specs.Premises.{Has}
+use Rattle.word_steps.specs.declared.content.Content.{Content}
+use Rattle.word_steps.specs.declared.view.View.{View}
+use Rattle.word_steps.specs.Plays.{Sat, looked_at}
+use Rattle.word_steps.specs.Premises.{Has}
 use Rattle.run_words.specs.Words.{IsSeatOf}
 use Rattle.run_words.proofs.ApartFacts.{has_line, looked_has, same_clash, stays_work}
 use Rattle.run_words.proofs.words.Words.works_apart.Goals as goal

@@ -1,6 +1,0 @@
-use Rattle.std.proofs.Common.{arith}
-use Rattle.run_words.proofs.words.Words.give_share.Goals as goal
-use Rattle.run_words.proofs.AtKey.{give_share_step}
-
-pub store-requires : goal.store-requires
-store-requires c = (c.requires.at.0, omega (arith, c.args.self.now.sized.0, c.share_word-word.ensures.there), give_share_step c.args.self.now _ _ c.args.c c.args.j _ c.requires.known.0 c.requires.known.1 c.requires.may _ c.share_word-word.ensures.word)

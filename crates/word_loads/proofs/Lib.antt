@@ -1,0 +1,15 @@
+pub mod RunFacts
+pub mod GatherFacts
+pub mod TakenFacts
+pub mod GivingFacts
+pub mod AccessFacts
+pub mod ReaderFacts
+pub mod ReturnFacts
+pub mod LadenFacts
+pub mod TakingFacts
+pub mod ClaimFacts
+pub mod Performs
+pub mod EventFacts
+pub mod Ending
+pub mod Releasing
+pub mod Public

@@ -1,0 +1,7 @@
+use Rattle.std.proofs.Common.{◌∙◌, ap}
+use Rattle.std.specs.Prelude.{Some}
+use Rattle.line_effects.proofs.Public.{verb_is}
+use Rattle.word_loads.proofs.putting.phase_op.Goals as goal
+
+pub barrier-requires : goal.barrier-requires
+barrier-requires c = c.phases_fit.ensures c.args.graph.now c.args.phase c.in-Phase.barrier c.line.ensures.is_graph (verb_is c.args.graph.now c.args.phase c.line.result.now c.line.ensures.line ∙ ap (λ v. Some v) c.in-Phase.is)

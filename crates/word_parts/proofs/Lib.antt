@@ -1,0 +1,9 @@
+pub mod PrepareFacts
+pub mod HomeFacts
+pub mod EmptyFacts
+pub mod Freed
+pub mod HandleCounts
+pub mod CreatedCounts
+pub mod PendingCounts
+pub mod RunFacts
+pub mod Resuming

@@ -1,0 +1,12 @@
+pub mod Claims
+pub mod Layout
+pub mod Lending
+pub mod Views
+pub mod Rule
+pub mod Plays
+pub mod Opening
+pub mod Premises
+pub mod Closing
+pub mod Table
+pub mod Clashes
+pub mod Laws
