@@ -1,5 +1,5 @@
 -- Two works of one run at once.
-use Rattle.std.proofs.Common.{◌≡◌, ℕ, Bool, true, false, inl, [], ◌∷◌, refl, sym, ◌∙◌, ap, subst}
+use Rattle.std.proofs.Common.{◌≡◌, ℕ, Bool, true, false, inl, [], refl, sym, ◌∙◌, ap, subst}
 use Rattle.atomic_table.specs.declared.shared.Seat as table
 use Rattle.word_steps.specs.declared.content.Content.{Content}
 use Rattle.word_steps.specs.declared.view.View.{View}

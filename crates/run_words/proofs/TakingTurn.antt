@@ -1,6 +1,6 @@
 -- What the calls that move the issue state rest on.
 use Rattle.std.proofs.Common.{◌≡◌, ℕ, ◌≤◌, List, [], ◌∷◌, ◌++◌, length, sym, ◌∙◌, ap, subst}
-use Rattle.std.specs.Prelude.{Contains, Some, None}
+use Rattle.std.specs.Prelude.{Some, None}
 use Rattle.event_table.specs.declared.handle.Handle.{Handle}
 use Rattle.shared_events.specs.declared.events.Events.{Events}
 use Rattle.graph_terms.specs.Graph.{GraphValue}
@@ -8,7 +8,6 @@ use Rattle.word_steps.specs.declared.content.Content.{Content}
 use Rattle.word_steps.specs.declared.content.Content.TheVariants.{Nothing, PendingEvent, EventReceipt, Cells, Lent, Share, Issuer}
 use Rattle.word_steps.specs.declared.content.IssueState.{IssueState}
 use Rattle.word_steps.specs.declared.view.View.{View}
-use Rattle.word_steps.specs.Claims.{Ground}
 use Rattle.word_steps.specs.Layout.{size_of, issue_turn_slot}
 use Rattle.word_steps.specs.Rule.{ground_of, IsIssueState}
 use Rattle.std.proofs.lemmas.List.{append-nil}

@@ -8,7 +8,6 @@ ghost use Rattle.shared_events.specs.Seats.{Grows, Keeps, SamePlacings};
 ghost use Rattle.shared_events.specs.Views.{shape_of, lists};
 ghost use Rattle.word_steps.specs.declared.content.Content.{Content as TheContent};
 ghost use Rattle.word_steps.specs.declared.content.Content.TheVariants.{Nothing, Issuer};
-ghost use Rattle.word_steps.specs.declared.content.IssueState.{IssueState as TheIssueState};
 ghost use Rattle.run_words.specs.Issuing.{AllPending};
 ghost use Rattle.word_steps.specs.Layout.{size_of, issue_turn_slot, issue_turn_word};
 ghost use Rattle.word_steps.specs.Plays.{issued_at, without_issue, with_issue_turn, without_issue_turn, missed, after_issue};

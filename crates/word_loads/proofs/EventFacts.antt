@@ -1,5 +1,5 @@
 -- What ending the event of a line and drawing its time rest on.
-use Rattle.std.proofs.Common.{◌≡◌, ℕ, List, ap}
+use Rattle.std.proofs.Common.{◌≡◌, ap}
 use Rattle.std.specs.Prelude.{Some, option_map}
 use Rattle.shared_events.specs.declared.tokens.Pending.{Pending}
 use Rattle.word_steps.specs.declared.content.Content.{Content}

@@ -20,7 +20,7 @@ ghost use Rattle.word_loads.specs.Laden.{Laden, with_taken, WorkDone, IsPutBack,
 ghost use Rattle.word_loads.specs.Gathering.{SeenOnTop, WholeOnTop, as_left, less_read, less_whole, LosesOne, MayRead};
 ghost use Rattle.share_words.specs.Shares.{share_count};
 ghost use Rattle.graph_terms.specs.Access.{accesses};
-ghost use Rattle.word_steps.specs.Layout.{size_of, column_slot};
+ghost use Rattle.word_steps.specs.Layout.{column_slot};
 ghost use Rattle.word_steps.specs.Plays.{on_claim, timed_at};
 ghost use Rattle.word_steps.specs.Premises.{Has};
 ghost use Rattle.word_steps.specs.Rule.{fate_for};

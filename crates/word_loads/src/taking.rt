@@ -1,6 +1,6 @@
 //! Taking the columns of a line, and shares of those that it only reads.
 
-ghost use Rattle.std.specs.Prelude.{ℕ, suc, List, [], ◌≡◌, ◌≢◌, ◌+◌, ◌-◌, ◌^◌, ◌<◌, ◌≤◌, true, false, Some, None, IfOk, IfErr, length, slice_get, slice_index};
+ghost use Rattle.std.specs.Prelude.{ℕ, suc, List, [], ◌≡◌, ◌+◌, ◌-◌, ◌<◌, ◌≤◌, true, false, Some, None, IfOk, IfErr, length, slice_get};
 ghost use Rattle.graph_terms.specs.Access.{accesses, is_read};
 ghost use Rattle.graph_terms.specs.Graph.{columns};
 ghost use Rattle.index_spaces.specs.Held.{held_at};

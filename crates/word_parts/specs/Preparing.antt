@@ -1,5 +1,5 @@
 -- What a run is prepared from, part by part.
-use Rattle.std.specs.Prelude.{◌≡◌, ℕ, ◌+◌, ◌<◌, ◌≤◌, ◌⊎◌, List, length, Contains, Option, Some, None, slice_get, slice_index, slice_index_or, []}
+use Rattle.std.specs.Prelude.{◌≡◌, ℕ, ◌+◌, ◌<◌, ◌≤◌, ◌⊎◌, List, length, Contains, Option, Some, None, slice_get, slice_index, slice_index_or}
 use Rattle.index_spaces.specs.Column.{ColumnValue}
 use Rattle.shared_events.specs.Views.{IsWaiterOf, number_of}
 use Rattle.shared_events.specs.declared.events.Events.{Events}

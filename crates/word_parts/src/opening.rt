@@ -1,7 +1,6 @@
 //! The beginning of a run: its table, and the room for its end.
 
-ghost use Rattle.std.specs.Prelude.{◌≡◌, ◌≤◌, [], List, length, IfOk};
-ghost use Rattle.std.specs.Slots.{slots_items, IsFull};
+ghost use Rattle.std.specs.Prelude.{◌≡◌, ◌≤◌, [], length, IfOk};
 ghost use Rattle.graph_meaning.specs.Effect.{zero_cells};
 ghost use Rattle.line_effects.specs.Homes.{all_home};
 ghost use Rattle.shared_events.specs.Views.{IsAt as IsSeatAt};

@@ -20,7 +20,7 @@ ghost use Rattle.shared_events.specs.declared.tokens.Receipt.{Receipt as TheRece
 ghost use Rattle.shared_events.specs.Views.{IsPendingOf, IsReceiptOf, handle_of, ended_by, fate_of};
 ghost use Rattle.word_steps.specs.declared.content.Content.TheVariants.{Nothing, PendingEvent, EventReceipt, Issuer};
 ghost use Rattle.word_steps.specs.declared.content.IssueState.{IssueState as TheIssueState};
-ghost use Rattle.word_steps.specs.Layout.{size_of, turn_word, share_word, column_slot, share_slot, lock_word, half, alone_code, time_word, value_word, clock_word, issue_turn_word, issue_turn_slot, word_count};
+ghost use Rattle.word_steps.specs.Layout.{size_of, turn_word, share_word, column_slot, share_slot, lock_word, half, time_word, value_word, clock_word, issue_turn_word, issue_turn_slot, word_count};
 ghost use Rattle.word_steps.specs.Plays.{looked, claims, turns, returns_unused, puts_back, takes_share, gives_share, reads_back, missed, holds, shares, lets_go, frees, arrives, draws, stores, ends, closes, unclaims, takes_issue_turn, gives_issue_turn, issues, gives_up_issue, issuing_at, parent_of, child_of, joined};
 ghost use Rattle.word_steps.specs.Premises.{Has, IsNumbered, Sources, MayTake, MayTakeShare, MayGiveShare, MayReadBack, MayLock, MayReturn, MayPut, IsThrough, IsOver, IsBare, HasNoRights, OnTop};
 ghost use Rattle.word_steps.specs.Rule.{end_code, fate_for, IsIssueState};

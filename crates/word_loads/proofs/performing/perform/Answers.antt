@@ -1,4 +1,4 @@
-use Rattle.std.proofs.Common.{◌≡◌, sym, ◌∙◌}
+use Rattle.std.proofs.Common.{sym, ◌∙◌}
 use Rattle.word_loads.proofs.Performs.{cells, shows, moved, owns, ends_so, laden, runs_not_cancelled}
 use Rattle.word_loads.proofs.performing.perform.Goals as goal
 

@@ -1,12 +1,12 @@
 use Rattle.std.proofs.Common.{arith, ◌≡◌, ◌+◌, ◌<◌, ℕ, length, Option, refl, sym, ◌∙◌, ap, subst}
-use Rattle.std.specs.Prelude.{Some, slice_get}
+use Rattle.std.specs.Prelude.{slice_get}
 use Rattle.std.proofs.lemmas.Option.{get_or_from_slice_get}
 use Rattle.graph_terms.specs.Graph.{columns}
 use Rattle.index_spaces.specs.Shares.{ShareValue}
 use Rattle.word_steps.specs.declared.content.Content.{Content}
 use Rattle.word_steps.specs.Layout.{size_of, column_slot}
 use Rattle.word_steps.specs.Lending.{AreWhole, home_for}
-use Rattle.word_parts.specs.Preparing.{IsLoose, LiesStill}
+use Rattle.word_parts.specs.Preparing.{IsLoose}
 use Rattle.share_words.specs.Shares.{share_count}
 use Rattle.word_parts.proofs.Freed.{home_apart, lies_beside, got_within}
 use Rattle.word_steps.proofs.Public.{whole_for}

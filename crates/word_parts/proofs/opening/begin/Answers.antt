@@ -1,13 +1,9 @@
-use Rattle.std.proofs.Common.{◌-◌, ◌+◌, ◌/◌, arith, [], length, ◌∙◌, ap, sym, subst}
+use Rattle.std.proofs.Common.{◌-◌, ◌+◌, ◌/◌, arith, [], length, ◌∙◌, ap, subst}
 use Rattle.std.proofs.lemmas.Nat.{mul-le}
 use Rattle.graph_terms.specs.Graph.{GraphValue}
 use Rattle.graph_meaning.specs.Effect.{zero_cells}
 use Rattle.line_effects.specs.Homes.{all_home}
-use Rattle.shared_events.specs.Views.{shape_of, IsAt}
-use Rattle.word_steps.specs.declared.base.Base.{Base}
-use Rattle.word_steps.specs.Rule.{IsIssueState, opener, ground_of}
-use Rattle.word_parts.specs.ClosingRoom.{IsClosingRoom}
-use Rattle.word_parts.specs.Preparing.{AreOut}
+use Rattle.word_steps.specs.Rule.{IsIssueState}
 use Rattle.share_words.specs.Shares.{AreShares}
 use Rattle.word_parts.proofs.opening.begin.Goals as goal
 

@@ -1,5 +1,4 @@
-use Rattle.std.proofs.Common.{◌∙◌, ap, sym, subst}
-use Rattle.graph_terms.specs.Graph.{GraphValue}
+use Rattle.std.proofs.Common.{subst}
 use Rattle.graph_terms.specs.Fits.{IsGraph}
 use Rattle.word_steps.proofs.OpenFacts.{opens}
 use Rattle.word_steps.proofs.opening.open.Goals as goal
