@@ -1,9 +1,9 @@
 -- Pieces cut their graph.
 use Rattle.std.proofs.Common.{◌≡◌, ℕ, zero, suc, ◌+◌, ◌-◌, ◌<◌, ◌≤◌, Bool, true, false, cond, inl, inr, List, [], ◌∷◌, ◌++◌, length, map, get_or, refl, sym, ◌∙◌, ap, subst, arith, append-nil}
-use Rattle.std.specs.Prelude.{Option, Some, None, Contains, option_map, slice_get, filter, filter_map, flat_map, position, find, ◌==◌}
+use Rattle.std.specs.Prelude.{Option, Some, None, Contains, option_map, slice_get, filter, filter_map, flat_map, nat_lt, position, find, ◌==◌}
 use Rattle.std.specs.Option.{option_map_or}
 use Rattle.std.specs.List.{position_from, cons_option}
-use Rattle.std.proofs.lemmas.Bool.{true≢false, cases_eq, cases_lt, and_parts, and_from, eq-eqb, eqb-true}
+use Rattle.std.proofs.lemmas.Bool.{true≢false, cases_eq, cases_lt, and_parts, and_from, eq-eqb, eqb-true, lt-ltb, le-ltb, cond-true, cond-false}
 use Rattle.std.proofs.lemmas.Option.{none-some, same_Some, slice_get-get_or, slice_get_past}
 use Rattle.std.proofs.lemmas.List.Elements.{filter_map-append, Contains-get_or}
 use Rattle.std.proofs.lemmas.List.Quantifiers.{position-Some}
@@ -17,13 +17,13 @@ use Rattle.graph_terms.specs.declared.decl.Decl.TheVariants.{Space, Inst, Data, 
 use Rattle.graph_terms.specs.declared.decl.ColumnInfo.{ColumnInfo}
 use Rattle.graph_terms.specs.declared.verb.Access.{Access}
 use Rattle.graph_terms.specs.Fits.{IsGraph}
-use Rattle.graph_terms.specs.Graph.{GraphValue, space_of, barrier_of, columns_of, barriers, columns, column_space, space_at}
+use Rattle.graph_terms.specs.Graph.{GraphValue, space_of, barrier_of, columns_of, named_spaces, barriers, columns, column_space, space_at}
 use Rattle.graph_terms.specs.Access.{accesses}
-use Rattle.graph_meaning.proofs.Public.{columns_differ}
+use Rattle.graph_meaning.proofs.Public.{columns_differ, all_accesses_fit}
 use Rattle.column_pieces.specs.Cut.{IsCut}
-use Rattle.column_pieces.specs.Pieces.{has_cell, piece_at, column_at, cut_of, piece_decls, is_kept, graph_of_pieces, ArePieces}
+use Rattle.column_pieces.specs.Pieces.{Unions, piece_space, has_cell, piece_at, column_at, cut_of, union_decls, piece_decls, is_kept, graph_of_pieces, ArePieces}
 use Rattle.column_pieces.specs.declared.pieces.Piece.{Piece}
-use Rattle.column_pieces.specs.Laws.{PiecesCut, PiecesKeepSpaces, ColumnsArePieces}
+use Rattle.column_pieces.specs.Laws.{PiecesCut, PiecesKeepSpaces, SpacesKeepNumbers, ColumnsArePieces}
 
 -- DECLARATIONS
 kept_none : {X : Type 0} (f : Decl → Option X) → ((n : List ℕ) (s : ℕ) (fs : List (List ℕ)) → f (Inst n s fs) ≡ None) → (ds : List Decl) → filter_map f (filter is_kept ds) ≡ filter_map f ds
@@ -34,15 +34,49 @@ kept_none f h (Data n s fs ∷ ds) = ap (cons_option (f (Data n s fs))) (kept_no
 kept_none f h (Lock n ∷ ds) = ap (cons_option (f (Lock n))) (kept_none f h ds)
 kept_none f h (Barrier n k o v ∷ ds) = ap (cons_option (f (Barrier n k o v))) (kept_none f h ds)
 
+union_items : {X : Type 0} (f : Decl → Option X) → ((n : List ℕ) (t : List (ℕ × ℕ)) → f (Space n t) ≡ None) → (k : ℕ) (us : Unions) → filter_map f (union_decls k us) ≡ []
+union_items f h k [] = refl
+union_items f h k (u ∷ us) = ap (λ o. cons_option o (filter_map f (union_decls (k + 1) us))) (h _ _) ∙ union_items f h (k + 1) us
+
 none_of_pieces : {X : Type 0} (f : Decl → Option X) → ((n : List ℕ) (s : ℕ) (fs : List (List ℕ)) → f (Inst n s fs) ≡ None) → (k : ℕ) (xs : List Piece) → filter_map f (piece_decls k xs) ≡ []
 none_of_pieces f h k [] = refl
 none_of_pieces f h k (x ∷ xs) = ap (λ o. cons_option o (filter_map f (piece_decls (k + 1) xs))) (h _ _ _) ∙ none_of_pieces f h (k + 1) xs
 
-same_items : {X : Type 0} (f : Decl → Option X) → ((n : List ℕ) (s : ℕ) (fs : List (List ℕ)) → f (Inst n s fs) ≡ None) → (ds : List Decl) (xs : List Piece) →
-    filter_map f (filter is_kept ds ++ piece_decls 0 xs) ≡ filter_map f ds
-same_items f h ds xs =
-    filter_map-append f (filter is_kept ds) (piece_decls 0 xs)
-    ∙ (ap (λ ys. filter_map f (filter is_kept ds) ++ ys) (none_of_pieces f h 0 xs) ∙ (append-nil (filter_map f (filter is_kept ds)) ∙ kept_none f h ds))
+same_items : {X : Type 0} (f : Decl → Option X) → ((n : List ℕ) (s : ℕ) (fs : List (List ℕ)) → f (Inst n s fs) ≡ None) → (ds : List Decl) (us : Unions) (xs : List Piece) →
+    filter_map f ((filter is_kept ds ++ union_decls 0 us) ++ piece_decls 0 xs) ≡ filter_map f ds ++ filter_map f (union_decls 0 us)
+same_items f h ds us xs =
+    filter_map-append f (filter is_kept ds ++ union_decls 0 us) (piece_decls 0 xs)
+    ∙ (ap (λ ys. filter_map f (filter is_kept ds ++ union_decls 0 us) ++ ys) (none_of_pieces f h 0 xs) ∙ (append-nil (filter_map f (filter is_kept ds ++ union_decls 0 us))
+    ∙ (filter_map-append f (filter is_kept ds) (union_decls 0 us) ∙ ap (λ ys. ys ++ filter_map f (union_decls 0 us)) (kept_none f h ds))))
+
+-- the spaces of unions
+abbrev space_in : List (List ℕ × List (ℕ × ℕ)) → ℕ → List (ℕ × ℕ)
+space_in xs s = option_map_or (λ x. x.1) (slice_get xs s) []
+
+union_got : (k : ℕ) (us : Unions) (j : ℕ) → space_in (filter_map space_of (union_decls k us)) j ≡ option_map_or (λ t. t) (slice_get us j) []
+union_got k [] j = refl
+union_got k (u ∷ us) zero = refl
+union_got k (u ∷ us) (suc j) = union_got (k + 1) us j
+
+got_first : {X : Type 0} (xs ys : List X) (s : ℕ) → s < length xs → slice_get (xs ++ ys) s ≡ slice_get xs s
+got_first [] ys s h = absurd (omega arith)
+got_first (x ∷ xs) ys zero h = refl
+got_first (x ∷ xs) ys (suc s) h = got_first xs ys s (omega arith)
+
+got_later : {X : Type 0} (xs ys : List X) (s : ℕ) → length xs ≤ s → slice_get (xs ++ ys) s ≡ slice_get ys (s - length xs)
+got_later [] ys s h = ap (slice_get ys) (let e : s ≡ s - 0 = omega arith in e)
+got_later (x ∷ xs) ys zero h = absurd (omega arith)
+got_later (x ∷ xs) ys (suc s) h = got_later xs ys s (omega arith) ∙ ap (slice_get ys) (let e : s - length xs ≡ suc s - suc (length xs) = omega arith in e)
+
+space_appended : (xs ys : List (List ℕ × List (ℕ × ℕ))) (s : ℕ) → space_in (xs ++ ys) s ≡ cond (nat_lt s (length xs)) (space_in xs s) (space_in ys (s - length xs))
+space_appended xs ys s = elim (cases_lt s (length xs)) [
+  | inl below ↦ ap (λ o. option_map_or (λ x. x.1) o []) (got_first xs ys s below) ∙ sym (cond-true (nat_lt s (length xs)) _ _ (lt-ltb s (length xs) below))
+  | inr past ↦ ap (λ o. option_map_or (λ x. x.1) o []) (got_later xs ys s past) ∙ sym (cond-false (nat_lt s (length xs)) _ _ (le-ltb s (length xs) past))
+]
+
+no_unions : (k : ℕ) (us : Unions) → flat_map columns_of (union_decls k us) ≡ []
+no_unions k [] = refl
+no_unions k (u ∷ us) = no_unions (k + 1) us
 
 no_columns : (ds : List Decl) → flat_map columns_of (filter is_kept ds) ≡ []
 no_columns [] = refl
@@ -52,8 +86,12 @@ no_columns (Data n s fs ∷ ds) = no_columns ds
 no_columns (Lock n ∷ ds) = no_columns ds
 no_columns (Barrier n k o v ∷ ds) = no_columns ds
 
-piece_columns : (ds : List Decl) (xs : List Piece) → flat_map columns_of (filter is_kept ds ++ piece_decls 0 xs) ≡ flat_map columns_of (piece_decls 0 xs)
-piece_columns ds xs = flat_map-append columns_of (filter is_kept ds) (piece_decls 0 xs) ∙ ap (λ ys. ys ++ flat_map columns_of (piece_decls 0 xs)) (no_columns ds)
+piece_columns : (ds : List Decl) (us : Unions) (xs : List Piece) → flat_map columns_of ((filter is_kept ds ++ union_decls 0 us) ++ piece_decls 0 xs) ≡ flat_map columns_of (piece_decls 0 xs)
+piece_columns ds us xs =
+    flat_map-append columns_of (filter is_kept ds ++ union_decls 0 us) (piece_decls 0 xs)
+    ∙ (ap (λ ys. ys ++ flat_map columns_of (piece_decls 0 xs)) (flat_map-append columns_of (filter is_kept ds) (union_decls 0 us))
+    ∙ (ap (λ ys. (ys ++ flat_map columns_of (union_decls 0 us)) ++ flat_map columns_of (piece_decls 0 xs)) (no_columns ds)
+    ∙ ap (λ ys. ys ++ flat_map columns_of (piece_decls 0 xs)) (no_unions 0 us)))
 
 columns_number : (k : ℕ) (xs : List Piece) → length (flat_map columns_of (piece_decls k xs)) ≡ length xs
 columns_number k [] = refl
@@ -64,10 +102,16 @@ columns_over k [] = refl
 columns_over k (x ∷ xs) = ap (λ ys. x.space ∷ ys) (columns_over (k + 1) xs)
 
 pub pieces_keep_spaces : PiecesKeepSpaces
-pieces_keep_spaces g pieces = same_items space_of (λ n s fs. refl) g.decls pieces
+pieces_keep_spaces g us pieces s =
+    ap (λ xs. space_in xs s) (same_items space_of (λ n k fs. refl) g.decls us pieces)
+    ∙ (space_appended (filter_map space_of g.decls) (filter_map space_of (union_decls 0 us)) s
+    ∙ ap (cond (nat_lt s (length (named_spaces g))) (space_at g s)) (union_got 0 us (s - length (named_spaces g))))
+
+pub spaces_keep_numbers : SpacesKeepNumbers
+spaces_keep_numbers g us s below = cond-true (nat_lt s (length (named_spaces g))) _ _ (lt-ltb s (length (named_spaces g)) below)
 
 pub columns_are_pieces : ColumnsArePieces
-columns_are_pieces g pieces = ap (map (λ (y : ColumnInfo). y.space)) (piece_columns g.decls pieces) ∙ columns_over 0 pieces
+columns_are_pieces g us pieces = ap (map (λ (y : ColumnInfo). y.space)) (piece_columns g.decls us pieces) ∙ columns_over 0 pieces
 
 column_got : (k : ℕ) (xs : List Piece) (j : ℕ) → option_map (λ (y : ColumnInfo). y.space) (slice_get (flat_map columns_of (piece_decls k xs)) j) ≡ option_map (λ (x : Piece). x.space) (slice_get xs j)
 column_got k [] j = refl
@@ -120,20 +164,20 @@ one_access g fits i a b ka kb same = by_order
       ]
     ]
 
-module _ (g : GraphValue) (pieces : List Piece) (fits : IsGraph g) (are : ArePieces g pieces) where
+module _ (g : GraphValue) (us : Unions) (pieces : List Piece) (fits : IsGraph g) (are : ArePieces g us pieces) where
   abbrev h : GraphValue
-  h = graph_of_pieces g pieces
+  h = graph_of_pieces g us pieces
 
   same_barriers : barriers h ≡ barriers g
-  same_barriers = same_items barrier_of (λ n s fs. refl) g.decls pieces
+  same_barriers = same_items barrier_of (λ n s fs. refl) g.decls us pieces ∙ (ap (λ ys. barriers g ++ ys) (union_items barrier_of (λ n t. refl) 0 us) ∙ append-nil (barriers g))
 
-  space_same : (s : ℕ) → space_at h s ≡ space_at g s
-  space_same s = ap (λ (xs : List (List ℕ × List (ℕ × ℕ))). option_map_or (λ x. x.1) (slice_get xs s) []) (pieces_keep_spaces g pieces)
+  space_same : (s : ℕ) → space_at h s ≡ piece_space g us s
+  space_same = pieces_keep_spaces g us pieces
 
   -- the piece that has a cell, if any
-  piece_by : (c p : ℕ) (k : ℕ) → position (has_cell g c p) pieces ≡ Some k → (x : Piece) × (slice_get pieces k ≡ Some x) × (x.column ≡ c) × (has_point (space_at g x.space) p ≡ true)
+  piece_by : (c p : ℕ) (k : ℕ) → position (has_cell g us c p) pieces ≡ Some k → (x : Piece) × (slice_get pieces k ≡ Some x) × (x.column ≡ c) × (has_point (piece_space g us x.space) p ≡ true)
   piece_by c p k e =
-      let s = position-Some (has_cell g c p) pieces k no_piece e in
+      let s = position-Some (has_cell g us c p) pieces k no_piece e in
       let parts = and_parts _ _ s.1 in
       (get_or pieces k no_piece, slice_get-get_or pieces k no_piece s.0, eqb-true _ c parts.0, parts.1)
 
@@ -142,26 +186,26 @@ module _ (g : GraphValue) (pieces : List Piece) (fits : IsGraph g) (are : ArePie
       ap (λ o. option_map_or (λ (x : Piece). x.column) o (length pieces + c - length pieces)) (slice_get_past pieces (length pieces + c) (omega arith))
       ∙ (let e : length pieces + c - length pieces ≡ c = omega arith in e)
 
-  cell_by : (c p : ℕ) (o : Option ℕ) → position (has_cell g c p) pieces ≡ o → column_at pieces (option_map_or (λ k. k) o (length pieces + c)) ≡ c
+  cell_by : (c p : ℕ) (o : Option ℕ) → position (has_cell g us c p) pieces ≡ o → column_at pieces (option_map_or (λ k. k) o (length pieces + c)) ≡ c
   cell_by c p None e = past_column c
   cell_by c p (Some k) e = let x = piece_by c p k e in ap (λ o. option_map_or (λ (y : Piece). y.column) o (k - length pieces)) x.1 ∙ x.2
 
-  cell : (c p : ℕ) → column_at pieces (piece_at g pieces c p) ≡ c
-  cell c p = cell_by c p (position (has_cell g c p) pieces) refl
+  cell : (c p : ℕ) → column_at pieces (piece_at g us pieces c p) ≡ c
+  cell c p = cell_by c p (position (has_cell g us c p) pieces) refl
 
-  use_by : (i c : ℕ) (o : Option Access) → column_at pieces (option_map_or (λ (a : Access). piece_at g pieces c (point_at (space_at g a.space) 0)) o (length pieces + c)) ≡ c
+  use_by : (i c : ℕ) (o : Option Access) → column_at pieces (option_map_or (λ (a : Access). piece_at g us pieces c (point_at (space_at g a.space) 0)) o (length pieces + c)) ≡ c
   use_by i c None = past_column c
   use_by i c (Some a) = cell c (point_at (space_at g a.space) 0)
 
-  has_by : (c p : ℕ) (o : Option ℕ) → position (has_cell g c p) pieces ≡ o → option_map_or (λ k. k) o (length pieces + c) < length (columns h) →
+  has_by : (c p : ℕ) (o : Option ℕ) → position (has_cell g us c p) pieces ≡ o → option_map_or (λ k. k) o (length pieces + c) < length (columns h) →
       has_point (column_space h (option_map_or (λ k. k) o (length pieces + c))) p ≡ true
   has_by c p None e below =
-      let size : length (columns h) ≡ length pieces = ap length (piece_columns g.decls pieces) ∙ columns_number 0 pieces in
+      let size : length (columns h) ≡ length pieces = ap length (piece_columns g.decls us pieces) ∙ columns_number 0 pieces in
       let less : length pieces + c < length (columns h) = below in
       absurd (omega (arith, size, less))
   has_by c p (Some k) e below =
       let x = piece_by c p k e in
-      ap (λ s. has_point s p) (space_of_piece (slice_get (columns h) k) (ap (λ xs. option_map (λ (y : ColumnInfo). y.space) (slice_get xs k)) (piece_columns g.decls pieces) ∙ (column_got 0 pieces k ∙ ap (option_map (λ (y : Piece). y.space)) x.1)) ∙ space_same x.0.space) ∙ x.3
+      ap (λ s. has_point s p) (space_of_piece (slice_get (columns h) k) (ap (λ xs. option_map (λ (y : ColumnInfo). y.space) (slice_get xs k)) (piece_columns g.decls us pieces) ∙ (column_got 0 pieces k ∙ ap (option_map (λ (y : Piece). y.space)) x.1)) ∙ space_same x.0.space) ∙ x.3
     where
       space_of_piece : {s : ℕ} (o : Option ColumnInfo) → option_map (λ (y : ColumnInfo). y.space) o ≡ Some s → option_map_or (λ (y : ColumnInfo). space_at h y.space) o [] ≡ space_at h s
       space_of_piece None e = absurd (none-some _ e)
@@ -169,14 +213,14 @@ module _ (g : GraphValue) (pieces : List Piece) (fits : IsGraph g) (are : ArePie
 
   -- two points of one access are in one piece
   one_piece : (i : ℕ) (a : Access) (p q : ℕ) → Contains (accesses g i) a → has_point (space_at g a.space) p ≡ true → has_point (space_at g a.space) q ≡ true →
-      piece_at g pieces a.column p ≡ piece_at g pieces a.column q
+      piece_at g us pieces a.column p ≡ piece_at g us pieces a.column q
   one_piece i a p q k hp hq =
       let z = are.covers i a k in
-      let at : (r : ℕ) → has_point (space_at g a.space) r ≡ true → has_cell g a.column r z.0 ≡ true = λ r hr. and_from _ _ (eq-eqb z.0.column a.column z.2) (z.3 r hr) in
-      let both : (r s : ℕ) → has_point (space_at g a.space) r ≡ true → has_point (space_at g a.space) s ≡ true → (x : Piece) → Contains pieces x → has_cell g a.column r x ≡ true → has_cell g a.column s x ≡ true =
-      λ r s hr hs x m t. subst (λ y. has_cell g a.column s y ≡ true) (sym (are.apart x z.0 a.column r m z.1 t (at r hr))) (at s hs) in
+      let at : (r : ℕ) → has_point (space_at g a.space) r ≡ true → has_cell g us a.column r z.0 ≡ true = λ r hr. and_from _ _ (eq-eqb z.0.column a.column z.2) (z.3 r hr) in
+      let both : (r s : ℕ) → has_point (space_at g a.space) r ≡ true → has_point (space_at g a.space) s ≡ true → (x : Piece) → Contains pieces x → has_cell g us a.column r x ≡ true → has_cell g us a.column s x ≡ true =
+      λ r s hr hs x m t. subst (λ y. has_cell g us a.column s y ≡ true) (sym (are.apart x z.0 a.column r m z.1 t (at r hr))) (at s hs) in
       ap (λ o. option_map_or (λ (k : ℕ). k) o (length pieces + a.column))
-      (positions_same (has_cell g a.column p) (has_cell g a.column q) pieces (λ x m. same_test (has_cell g a.column p x) (has_cell g a.column q x) (both p q hp hq x m) (both q p hq hp x m)))
+      (positions_same (has_cell g us a.column p) (has_cell g us a.column q) pieces (λ x m. same_test (has_cell g us a.column p x) (has_cell g us a.column q x) (both p q hp hq x m) (both q p hq hp x m)))
 
   first_point : (s : List (ℕ × ℕ)) (p : ℕ) → has_point s p ≡ true → has_point s (point_at s 0) ≡ true
   first_point s p h =
@@ -185,24 +229,24 @@ module _ (g : GraphValue) (pieces : List Piece) (fits : IsGraph g) (are : ArePie
       (points_are_listed s (point_at s 0)).0 (Contains-get_or (points s) 0 0 (omega arith))
 
   within_by : (i : ℕ) (a : Access) (p : ℕ) → Contains (accesses g i) a → has_point (space_at g a.space) p ≡ true → (o : Option Access) → find (λ (b : Access). b.column == a.column) (accesses g i) ≡ o →
-      piece_at g pieces a.column p ≡ option_map_or (λ (b : Access). piece_at g pieces a.column (point_at (space_at g b.space) 0)) o (length pieces + a.column)
+      piece_at g us pieces a.column p ≡ option_map_or (λ (b : Access). piece_at g us pieces a.column (point_at (space_at g b.space) 0)) o (length pieces + a.column)
   within_by i a p k hp None e = absurd (true≢false (sym (eq-eqb a.column a.column refl) ∙ find_none (λ (b : Access). b.column == a.column) (accesses g i) e a k))
   within_by i a p k hp (Some b) e =
       let f = find_is (λ (x : Access). x.column == a.column) (accesses g i) b e in
       let same : a ≡ b = one_access g fits i a b k f.0 (sym (eqb-true b.column a.column f.1)) in
       one_piece i a p (point_at (space_at g a.space) 0) k hp (first_point (space_at g a.space) p hp)
-      ∙ ap (λ (x : Access). piece_at g pieces a.column (point_at (space_at g x.space) 0)) same
+      ∙ ap (λ (x : Access). piece_at g us pieces a.column (point_at (space_at g x.space) 0)) same
 
-  cuts : IsCut g (graph_of_pieces g pieces) (cut_of g pieces)
+  cuts : IsCut g (graph_of_pieces g us pieces) (cut_of g us pieces)
   cuts = record {
     lines = refl;
     barriers = same_barriers;
-    spaces = λ i a k. space_same a.space;
+    spaces = λ i a k. space_same a.space ∙ spaces_keep_numbers g us a.space (all_accesses_fit g i a fits k).space;
     within = λ i a p k hp. within_by i a p k hp (find (λ (b : Access). b.column == a.column) (accesses g i)) refl;
     cell = cell;
     use_of = λ i c. use_by i c (find (λ (b : Access). b.column == c) (accesses g i));
-    has = λ c p below. has_by c p (position (has_cell g c p) pieces) refl below;
+    has = λ c p below. has_by c p (position (has_cell g us c p) pieces) refl below;
   }
 
 pub pieces_cut : PiecesCut
-pieces_cut g pieces fits are = cuts g pieces fits are
+pieces_cut g us pieces fits are = cuts g us pieces fits are

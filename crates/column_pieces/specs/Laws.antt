@@ -11,7 +11,7 @@ use Rattle.graph_meaning.specs.Evaluation.{outcome}
 use Rattle.graph_meaning.specs.Trace.{IsLawful}
 use Rattle.column_pieces.specs.Cut.{Cut, IsCut}
 use Rattle.column_pieces.specs.Joined.{joined}
-use Rattle.column_pieces.specs.Pieces.{IsWhole, Linked, ArePieces, graph_of_pieces, cut_of}
+use Rattle.column_pieces.specs.Pieces.{Unions, IsWhole, IsConnected, IsAccessed, Linked, ArePieces, piece_space, graph_of_pieces, cut_of}
 use Rattle.column_pieces.specs.declared.pieces.Piece.{Piece}
 
 -- the outcome of the graph of pieces, put together, is the outcome of the graph
@@ -28,21 +28,39 @@ PiecesAreAccepted = (g h : GraphValue) (cut : Cut) → IsGraph h → has_since g
 
 -- pieces cut their graph
 abbrev pub PiecesCut : Type 0
-PiecesCut = (g : GraphValue) (pieces : List Piece) → IsGraph g → ArePieces g pieces → IsCut g (graph_of_pieces g pieces) (cut_of g pieces)
+PiecesCut = (g : GraphValue) (unions : Unions) (pieces : List Piece) → IsGraph g → ArePieces g unions pieces → IsCut g (graph_of_pieces g unions pieces) (cut_of g unions pieces)
 
 -- a piece is of a column of the graph, and has none but points of it
 abbrev pub PiecesLieWithin : Type 0
-PiecesLieWithin = (g : GraphValue) (pieces : List Piece) (x : Piece) → IsGraph g → ArePieces g pieces → Contains pieces x →
-    (x.column < length (columns g)) × IsWithin (space_at g x.space) (column_space g x.column)
+PiecesLieWithin = (g : GraphValue) (unions : Unions) (pieces : List Piece) (x : Piece) → IsGraph g → ArePieces g unions pieces → Contains pieces x →
+    (x.column < length (columns g)) × IsWithin (piece_space g unions x.space) (column_space g x.column)
 
--- the graph of pieces has the spaces of the graph, and a column for each piece, over its space
+-- the graph of pieces has the spaces of the graph, and the unions behind them
 abbrev pub PiecesKeepSpaces : Type 0
-PiecesKeepSpaces = (g : GraphValue) (pieces : List Piece) → named_spaces (graph_of_pieces g pieces) ≡ named_spaces g
+PiecesKeepSpaces = (g : GraphValue) (unions : Unions) (pieces : List Piece) (s : ℕ) → space_at (graph_of_pieces g unions pieces) s ≡ piece_space g unions s
 
+-- and a column for each piece, over its space
 abbrev pub ColumnsArePieces : Type 0
-ColumnsArePieces = (g : GraphValue) (pieces : List Piece) → map (λ (y : ColumnInfo). y.space) (columns (graph_of_pieces g pieces)) ≡ map (λ (x : Piece). x.space) pieces
+ColumnsArePieces = (g : GraphValue) (unions : Unions) (pieces : List Piece) → map (λ (y : ColumnInfo). y.space) (columns (graph_of_pieces g unions pieces)) ≡ map (λ (x : Piece). x.space) pieces
 
 -- a piece is a connected component of what the accesses of its column name, unless that column stays whole: from a point of it, just its points are linked
 abbrev pub PiecesAreComponents : Type 0
-PiecesAreComponents = (g : GraphValue) (pieces : List Piece) (x : Piece) (p q : ℕ) → ArePieces g pieces → Contains pieces x → (IsWhole g x → ⊥) → IsTrue (has_point (space_at g x.space) p) →
-    Linked g x.column p q ↔ IsTrue (has_point (space_at g x.space) q)
+PiecesAreComponents = (g : GraphValue) (unions : Unions) (pieces : List Piece) (x : Piece) (p q : ℕ) → ArePieces g unions pieces → Contains pieces x →
+    (IsWhole g x.column (piece_space g unions x.space) → ⊥) → IsTrue (has_point (piece_space g unions x.space) p) → Linked g x.column p q ↔ IsTrue (has_point (piece_space g unions x.space) q)
+
+-- the points of an access hang together
+abbrev pub AccessesAreConnected : Type 0
+AccessesAreConnected = (g : GraphValue) (c s : ℕ) → IsAccessed g c s → IsConnected g c (space_at g s)
+
+-- and so do points that are linked with one of them, both ways
+abbrev pub ConnectedByPoint : Type 0
+ConnectedByPoint = (g : GraphValue) (c s b : ℕ) (t : List (ℕ × ℕ)) → IsAccessed g c s → IsWithin (space_at g s) t →
+    ((p : ℕ) → IsTrue (has_point t p) → Linked g c p b × Linked g c b p) → IsConnected g c t
+
+-- points that hang together lie within their column
+abbrev pub ConnectedLieWithin : Type 0
+ConnectedLieWithin = (g : GraphValue) (c : ℕ) (t : List (ℕ × ℕ)) → IsGraph g → IsConnected g c t → IsWithin t (column_space g c)
+
+-- the space of a number that the graph has
+abbrev pub SpacesKeepNumbers : Type 0
+SpacesKeepNumbers = (g : GraphValue) (unions : Unions) (s : ℕ) → s < length (named_spaces g) → piece_space g unions s ≡ space_at g s

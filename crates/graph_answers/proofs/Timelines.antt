@@ -11,7 +11,7 @@ use Rattle.realm_timeline.specs.Columns.{AreApart, IsGreedyByColumns}
 use Rattle.realm_timeline.specs.Chains.{IsCritical, chain_cost}
 use Rattle.realm_timeline.specs.Laws.{AcquiresNone}
 use Rattle.realm_timeline.specs.Text.{timeline_text}
-use Rattle.column_pieces.specs.Pieces.{ArePieces, graph_of_pieces}
+use Rattle.column_pieces.specs.Pieces.{Unions, ArePieces, graph_of_pieces}
 use Rattle.column_pieces.specs.declared.pieces.Piece.{Piece}
 use Rattle.piece_graphs.specs.Uncut.{IsUncut}
 use Rattle.command_line.specs.declared.request.Request.{Request}
@@ -66,9 +66,9 @@ answer_weaker : (Says Other : List ℕ → Type 0) (s t : SinkState) (result : S
 answer_weaker Says Other s t result f (inl e) = inl e
 answer_weaker Says Other s t result f (inr a) = inr (a.0, f a.0 a.1, a.2)
 
-pub answer_in_pieces : (g h : GraphValue) (pieces : List Piece) (processors : ℕ) (s t : SinkState) (result : Status) → ArePieces g pieces → h ≡ graph_of_pieces g pieces →
+pub answer_in_pieces : (g h : GraphValue) (unions : Unions) (pieces : List Piece) (processors : ℕ) (s t : SinkState) (result : Status) → ArePieces g unions pieces → h ≡ graph_of_pieces g unions pieces →
     Answer (IsColumnsText processors h) s t result → Answer (IsPieceText processors g) s t result
-answer_in_pieces g h pieces processors s t result are is = answer_weaker (IsColumnsText processors h) (IsPieceText processors g) s t result (λ out says. (h, inl (pieces, are, is), says))
+answer_in_pieces g h unions pieces processors s t result are is = answer_weaker (IsColumnsText processors h) (IsPieceText processors g) s t result (λ out says. (h, inl (unions, pieces, are, is), says))
 
 pub answer_whole : (g : GraphValue) (processors : ℕ) (s t : SinkState) (result : Status) → IsUncut g → Answer (IsColumnsText processors g) s t result → Answer (IsPieceText processors g) s t result
 answer_whole g processors s t result uncut = answer_weaker (IsColumnsText processors g) (IsPieceText processors g) s t result (λ out says. (g, inr (uncut, refl), says))

@@ -18,7 +18,7 @@ use Rattle.realm_timeline.specs.declared.slot.Slot.{Slot}
 use Rattle.realm_timeline.specs.Plan.{IsPlan, IsValid, IsGreedy, plan_length, total_cost}
 use Rattle.realm_timeline.specs.Columns.{AreApart, IsGreedyByColumns}
 use Rattle.realm_timeline.specs.Chains.{IsCritical, chain_cost}
-use Rattle.column_pieces.specs.Pieces.{ArePieces, graph_of_pieces}
+use Rattle.column_pieces.specs.Pieces.{Unions, ArePieces, graph_of_pieces}
 use Rattle.column_pieces.specs.declared.pieces.Piece.{Piece}
 use Rattle.piece_graphs.specs.Uncut.{IsUncut}
 use Rattle.realm_timeline.specs.Laws.{AcquiresNone}
@@ -119,7 +119,7 @@ pub record IsColumnsText (processors : ℕ) (g : GraphValue) (out : List ℕ) : 
 
 -- the graph that is run with two workers or more: that of the pieces of columns, or the graph itself where these are not cut
 abbrev pub IsInPieces : GraphValue → GraphValue → Type 0
-IsInPieces g h = ((pieces : List Piece) × ArePieces g pieces × (h ≡ graph_of_pieces g pieces)) ⊎ (IsUncut g × (h ≡ g))
+IsInPieces g h = ((unions : Unions) × (pieces : List Piece) × ArePieces g unions pieces × (h ≡ graph_of_pieces g unions pieces)) ⊎ (IsUncut g × (h ≡ g))
 
 -- and such a timeline of it
 abbrev pub IsPieceText : ℕ → GraphValue → List ℕ → Type 0

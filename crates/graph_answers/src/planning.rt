@@ -78,8 +78,8 @@ fn plan_cut<K: Sink>(
     sink: &mut K,
 ) -> Status
     requires processors { (1 ≤ processors) × (processors ≤ MAX_WORKERS) }
-    requires pieces { ArePieces checked.now.graph cut.pieces.items }
-    requires graph { cut.graph ≡ graph_of_pieces checked.now.graph cut.pieces.items }
+    requires pieces { ArePieces checked.now.graph cut.pieces.unions.items cut.pieces.pieces.items }
+    requires graph { cut.graph ≡ graph_of_pieces checked.now.graph cut.pieces.unions.items cut.pieces.pieces.items }
     ensures done { (result ≡ Status.NoMemory) ⊎ ((out : List ℕ) × IsPieceText processors checked.now.graph out
         × Delivers (K.state sink.old) (K.state sink.new) Status.Done result out) }
     ensures no_memory { result ≡ Status.NoMemory → sink.new ≡ sink.old }

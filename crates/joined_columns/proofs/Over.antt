@@ -7,12 +7,13 @@ use Rattle.std.proofs.lemmas.List.{length-map, get_or-map, same_lists}
 use Rattle.std.proofs.lemmas.List.FromFn.{get_or-map-range_with_len, length-map-range_with_len}
 use Rattle.std.proofs.lemmas.Simd.{map-map}
 use Rattle.basics.specs.Lists.{numbers_below}
+use Rattle.basics.proofs.ListFacts.{map_same}
 use Rattle.index_spaces.specs.Column.{ColumnValue}
 use Rattle.graph_terms.specs.declared.decl.ColumnInfo.{ColumnInfo}
 use Rattle.graph_terms.specs.Graph.{GraphValue, columns, column_space, space_at}
 use Rattle.graph_meaning.specs.Effect.{Cells}
 use Rattle.graph_meaning.specs.Evaluation.{cells_of, evaluation, column_of}
-use Rattle.column_pieces.specs.Pieces.{graph_of_pieces}
+use Rattle.column_pieces.specs.Pieces.{Unions, piece_space, graph_of_pieces}
 use Rattle.column_pieces.specs.declared.pieces.Piece.{Piece}
 use Rattle.column_pieces.proofs.Public.{pieces_keep_spaces, columns_are_pieces}
 use Rattle.joined_columns.specs.Over.{OutcomesAreOver}
@@ -32,21 +33,18 @@ spaces_mapped : (g : GraphValue) (cells : Cells) (ks : List ℕ) → map (λ (x 
 spaces_mapped g cells [] = refl
 spaces_mapped g cells (k ∷ ks) = ap (λ ys. column_space g k ∷ ys) (spaces_mapped g cells ks)
 
-module _ (g : GraphValue) (pieces : List Piece) where
+module _ (g : GraphValue) (us : Unions) (pieces : List Piece) where
   abbrev h : GraphValue
-  h = graph_of_pieces g pieces
+  h = graph_of_pieces g us pieces
 
-  abbrev over : List (List ℕ × List (ℕ × ℕ)) → ColumnInfo → List (ℕ × ℕ)
-  over spaces y = option_map_or (λ (x : List ℕ × List (ℕ × ℕ)). x.1) (slice_get spaces y.space) []
-
-  are_over : (cells : Cells) → map (λ (x : ColumnValue). x.space) (map (column_of h cells) (numbers_below (length (columns h)))) ≡ map (λ (x : Piece). space_at g x.space) pieces
+  are_over : (cells : Cells) → map (λ (x : ColumnValue). x.space) (map (column_of h cells) (numbers_below (length (columns h)))) ≡ map (λ (x : Piece). piece_space g us x.space) pieces
   are_over cells =
       spaces_mapped h cells (numbers_below (length (columns h)))
       ∙ (read_all (λ (y : ColumnInfo). space_at h y.space) [] (record { inst = []; field = []; space = 0 }) (columns h)
-      ∙ (ap (λ spaces. map (over spaces) (columns h)) (pieces_keep_spaces g pieces)
-      ∙ (sym (map-map (space_at g) (λ (y : ColumnInfo). y.space) (columns h))
-      ∙ (ap (map (space_at g)) (columns_are_pieces g pieces)
-      ∙ map-map (space_at g) (λ (x : Piece). x.space) pieces))))
+      ∙ (map_same (λ (y : ColumnInfo). space_at h y.space) (λ (y : ColumnInfo). piece_space g us y.space) (columns h) (λ y. pieces_keep_spaces g us pieces y.space)
+      ∙ (sym (map-map (piece_space g us) (λ (y : ColumnInfo). y.space) (columns h))
+      ∙ (ap (map (piece_space g us)) (columns_are_pieces g us pieces)
+      ∙ map-map (piece_space g us) (λ (x : Piece). x.space) pieces))))
 
 pub outcomes_are_over : OutcomesAreOver
-outcomes_are_over g pieces trace = are_over g pieces (cells_of (evaluation (graph_of_pieces g pieces)))
+outcomes_are_over g us pieces trace = are_over g us pieces (cells_of (evaluation (graph_of_pieces g us pieces)))

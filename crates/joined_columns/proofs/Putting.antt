@@ -20,25 +20,25 @@ use Rattle.graph_terms.proofs.Public.{space_is, column_space_known}
 use Rattle.graph_meaning.specs.Effect.{zero_cells}
 use Rattle.graph_meaning.specs.Evaluation.{column_of}
 use Rattle.column_pieces.specs.Joined.{joined_cell, joined_column}
-use Rattle.column_pieces.specs.Pieces.{has_cell, cut_of}
+use Rattle.column_pieces.specs.Pieces.{Unions, piece_space, has_cell, cut_of}
 use Rattle.column_pieces.specs.declared.pieces.Piece.{Piece}
 
 -- the cell at a point that the first piece with it has, and 0 where none has it
-abbrev pub cell_in : GraphValue → List Piece → List ColumnValue → ℕ → ℕ → ℕ
-cell_in g [] ys c p = 0
-cell_in g (x ∷ xs) [] c p = 0
-cell_in g (x ∷ xs) (y ∷ ys) c p = cond (has_cell g c p x) (cell_of y p) (cell_in g xs ys c p)
+abbrev pub cell_in : GraphValue → Unions → List Piece → List ColumnValue → ℕ → ℕ → ℕ
+cell_in g us [] ys c p = 0
+cell_in g us (x ∷ xs) [] c p = 0
+cell_in g us (x ∷ xs) (y ∷ ys) c p = cond (has_cell g us c p x) (cell_of y p) (cell_in g us xs ys c p)
 
 -- a column of a graph with the cells of these pieces
-pub record HasCellsOf (g : GraphValue) (xs : List Piece) (ys : List ColumnValue) (c : ℕ) (x : ColumnValue) : Type 0 where
+pub record HasCellsOf (g : GraphValue) (us : Unions) (xs : List Piece) (ys : List ColumnValue) (c : ℕ) (x : ColumnValue) : Type 0 where
   pub space : x.space ≡ column_space g c
   pub full : length x.cells ≡ space_size x.space
-  pub cells : (p : ℕ) → has_point x.space p ≡ true → cell_of x p ≡ cell_in g xs ys c p
+  pub cells : (p : ℕ) → has_point x.space p ≡ true → cell_of x p ≡ cell_in g us xs ys c p
 
 -- all columns of a graph with these
-pub record HaveCellsOf (g : GraphValue) (xs : List Piece) (ys : List ColumnValue) (all : List ColumnValue) : Type 0 where
+pub record HaveCellsOf (g : GraphValue) (us : Unions) (xs : List Piece) (ys : List ColumnValue) (all : List ColumnValue) : Type 0 where
   pub number : length all ≡ length (columns g)
-  pub each : (c : ℕ) (x : ColumnValue) → slice_get all c ≡ Some x → HasCellsOf g xs ys c x
+  pub each : (c : ℕ) (x : ColumnValue) → slice_get all c ≡ Some x → HasCellsOf g us xs ys c x
 
 abbrev none : ColumnValue
 none = record { space = []; cells = [] }
@@ -47,28 +47,28 @@ none = record { space = []; cells = [] }
 abbrev read : ℕ → Option ColumnValue → ℕ
 read p o = option_map_or (λ (y : ColumnValue). cell_of y p) o 0
 
-read_from : (g : GraphValue) (c p : ℕ) (zs : List ColumnValue) (xs : List Piece) (ys : List ColumnValue) → length ys ≡ length xs →
-    cell_in g xs ys c p ≡ option_map_or (λ k. read p (slice_get (zs ++ ys) k)) (position_from (has_cell g c p) (length zs) xs) 0
-read_from g c p zs [] ys e = refl
-read_from g c p zs (x ∷ xs) [] e = absurd (omega arith)
-read_from g c p zs (x ∷ xs) (y ∷ ys) e =
+read_from : (g : GraphValue) (us : Unions) (c p : ℕ) (zs : List ColumnValue) (xs : List Piece) (ys : List ColumnValue) → length ys ≡ length xs →
+    cell_in g us xs ys c p ≡ option_map_or (λ k. read p (slice_get (zs ++ ys) k)) (position_from (has_cell g us c p) (length zs) xs) 0
+read_from g us c p zs [] ys e = refl
+read_from g us c p zs (x ∷ xs) [] e = absurd (omega arith)
+read_from g us c p zs (x ∷ xs) (y ∷ ys) e =
     let long : length (zs ++ y ∷ []) ≡ length zs + 1 = length_push zs y in
-    by_test (has_cell g c p x)
-    (read_from g c p (zs ++ y ∷ []) xs ys (omega arith)
-    ∙ (ap (λ n. option_map_or (λ k. read p (slice_get ((zs ++ y ∷ []) ++ ys) k)) (position_from (has_cell g c p) n xs) 0) long
-    ∙ ap (λ vs. option_map_or (λ k. read p (slice_get vs k)) (position_from (has_cell g c p) (length zs + 1) xs) 0) (append_assoc zs (y ∷ []) ys)))
+    by_test (has_cell g us c p x)
+    (read_from g us c p (zs ++ y ∷ []) xs ys (omega arith)
+    ∙ (ap (λ n. option_map_or (λ k. read p (slice_get ((zs ++ y ∷ []) ++ ys) k)) (position_from (has_cell g us c p) n xs) 0) long
+    ∙ ap (λ vs. option_map_or (λ k. read p (slice_get vs k)) (position_from (has_cell g us c p) (length zs + 1) xs) 0) (append_assoc zs (y ∷ []) ys)))
   where
-    by_test : (b : Bool) → cell_in g xs ys c p ≡ option_map_or (λ k. read p (slice_get (zs ++ y ∷ ys) k)) (position_from (has_cell g c p) (length zs + 1) xs) 0 →
-        cond b (cell_of y p) (cell_in g xs ys c p) ≡ option_map_or (λ k. read p (slice_get (zs ++ y ∷ ys) k)) (cond b (Some (length zs)) (position_from (has_cell g c p) (length zs + 1) xs)) 0
+    by_test : (b : Bool) → cell_in g us xs ys c p ≡ option_map_or (λ k. read p (slice_get (zs ++ y ∷ ys) k)) (position_from (has_cell g us c p) (length zs + 1) xs) 0 →
+        cond b (cell_of y p) (cell_in g us xs ys c p) ≡ option_map_or (λ k. read p (slice_get (zs ++ y ∷ ys) k)) (cond b (Some (length zs)) (position_from (has_cell g us c p) (length zs + 1) xs)) 0
     by_test true rest = sym (ap (read p) (got_behind zs y ys))
     by_test false rest = rest
 
 -- it is the cell that is put together
-is_joined : (g : GraphValue) (c p : ℕ) (xs : List Piece) (ys : List ColumnValue) → length ys ≡ length xs → cell_in g xs ys c p ≡ joined_cell ys (cut_of g xs) c p
-is_joined g c p xs ys e =
-    read_from g c p [] xs ys e
-    ∙ (ap (λ o. option_map_or (λ k. read p (slice_get ys k)) o 0) (sym (position_from-zero (has_cell g c p) xs))
-    ∙ by_place (position (has_cell g c p) xs))
+is_joined : (g : GraphValue) (us : Unions) (c p : ℕ) (xs : List Piece) (ys : List ColumnValue) → length ys ≡ length xs → cell_in g us xs ys c p ≡ joined_cell ys (cut_of g us xs) c p
+is_joined g us c p xs ys e =
+    read_from g us c p [] xs ys e
+    ∙ (ap (λ o. option_map_or (λ k. read p (slice_get ys k)) o 0) (sym (position_from-zero (has_cell g us c p) xs))
+    ∙ by_place (position (has_cell g us c p) xs))
   where
     by_place : (o : Option ℕ) → option_map_or (λ k. read p (slice_get ys k)) o 0 ≡ read p (slice_get ys (option_map_or (λ k. k) o (length xs + c)))
     by_place (Some k) = refl
@@ -109,10 +109,10 @@ zeroed_more g old new x n e f h =
     ∙ sym (map-range_with_len_more (column_of g zero_cells) 0 n n (let z : 0 + n ≡ n = omega arith in z))))
 
 -- at first no piece is put
-pub none_put : (g : GraphValue) (ys all : List ColumnValue) → all ≡ map (column_of g zero_cells) (numbers_below (length (columns g))) → HaveCellsOf g [] ys all
-none_put g ys all is = record {
+pub none_put : (g : GraphValue) (us : Unions) (ys all : List ColumnValue) → all ≡ map (column_of g zero_cells) (numbers_below (length (columns g))) → HaveCellsOf g us [] ys all
+none_put g us ys all is = record {
   number = ap length is ∙ length-map-range_with_len (column_of g zero_cells) 0 (length (columns g));
-  each = λ c x at. subst (HasCellsOf g [] ys c) (sym (column_got g c x all (column_of g zero_cells) (length (columns g)) is at)) (record {
+  each = λ c x at. subst (HasCellsOf g us [] ys c) (sym (column_got g c x all (column_of g zero_cells) (length (columns g)) is at)) (record {
     space = refl;
     full = length-map (points (column_space g c)) (zero_cells c);
     cells = λ p h. zero_read c (points (column_space g c)) (rank (column_space g c) p);
@@ -120,59 +120,59 @@ none_put g ys all is = record {
 }
 
 -- one piece more, in its column
-put_here : (g : GraphValue) (xs : List Piece) (ys : List ColumnValue) (x : Piece) (y old new : ColumnValue) → y.space ≡ space_at g x.space → HasCellsOf g xs ys x.column old →
-    WritesPoints old new y.space (cell_of y) → length new.cells ≡ space_size new.space → HasCellsOf g (x ∷ xs) (y ∷ ys) x.column new
-put_here g xs ys x y old new over has write full = record {
+put_here : (g : GraphValue) (us : Unions) (xs : List Piece) (ys : List ColumnValue) (x : Piece) (y old new : ColumnValue) → y.space ≡ piece_space g us x.space → HasCellsOf g us xs ys x.column old →
+    WritesPoints old new y.space (cell_of y) → length new.cells ≡ space_size new.space → HasCellsOf g us (x ∷ xs) (y ∷ ys) x.column new
+put_here g us xs ys x y old new over has write full = record {
   space = write.space ∙ has.space;
   full = full;
   cells = λ p h. by_point p (subst (λ s. has_point s p ≡ true) write.space h);
 }
   where
-    by_point : (p : ℕ) → has_point old.space p ≡ true → cell_of new p ≡ cell_in g (x ∷ xs) (y ∷ ys) x.column p
+    by_point : (p : ℕ) → has_point old.space p ≡ true → cell_of new p ≡ cell_in g us (x ∷ xs) (y ∷ ys) x.column p
     by_point p h = elim (cases_Bool (has_point y.space p)) [
       | inl in_part ↦ (
-          let test : has_cell g x.column p x ≡ true = and_from _ _ (eq-eqb x.column x.column refl) (subst (λ s. has_point s p ≡ true) over in_part) in
-          write.inside p in_part ∙ sym (cond-true (has_cell g x.column p x) (cell_of y p) (cell_in g xs ys x.column p) test))
+          let test : has_cell g us x.column p x ≡ true = and_from _ _ (eq-eqb x.column x.column refl) (subst (λ s. has_point s p ≡ true) over in_part) in
+          write.inside p in_part ∙ sym (cond-true (has_cell g us x.column p x) (cell_of y p) (cell_in g us xs ys x.column p) test))
       | inr out ↦ (
-          let test : has_cell g x.column p x ≡ false = and_right (x.column == x.column) _ (subst (λ s. has_point s p ≡ false) over out) in
-          write.outside p h out ∙ (has.cells p h ∙ sym (cond-false (has_cell g x.column p x) (cell_of y p) (cell_in g xs ys x.column p) test)))
+          let test : has_cell g us x.column p x ≡ false = and_right (x.column == x.column) _ (subst (λ s. has_point s p ≡ false) over out) in
+          write.outside p h out ∙ (has.cells p h ∙ sym (cond-false (has_cell g us x.column p x) (cell_of y p) (cell_in g us xs ys x.column p) test)))
     ]
 
 -- and elsewhere
-put_elsewhere : (g : GraphValue) (xs : List Piece) (ys : List ColumnValue) (x : Piece) (y : ColumnValue) (c : ℕ) (z : ColumnValue) → c ≢ x.column → HasCellsOf g xs ys c z → HasCellsOf g (x ∷ xs) (y ∷ ys) c z
-put_elsewhere g xs ys x y c z other has = record {
+put_elsewhere : (g : GraphValue) (us : Unions) (xs : List Piece) (ys : List ColumnValue) (x : Piece) (y : ColumnValue) (c : ℕ) (z : ColumnValue) → c ≢ x.column → HasCellsOf g us xs ys c z → HasCellsOf g us (x ∷ xs) (y ∷ ys) c z
+put_elsewhere g us xs ys x y c z other has = record {
   space = has.space;
   full = has.full;
   cells = λ p h. (
-      let test : has_cell g c p x ≡ false = and_left (x.column == c) _ (ne_eqb x.column c (λ e. other (sym e))) in
-      has.cells p h ∙ sym (cond-false (has_cell g c p x) (cell_of y p) (cell_in g xs ys c p) test));
+      let test : has_cell g us c p x ≡ false = and_left (x.column == c) _ (ne_eqb x.column c (λ e. other (sym e))) in
+      has.cells p h ∙ sym (cond-false (has_cell g us c p x) (cell_of y p) (cell_in g us xs ys c p) test));
 }
 
-one_put : (g : GraphValue) (xs : List Piece) (ys all : List ColumnValue) (x : Piece) (y old new : ColumnValue) → y.space ≡ space_at g x.space → slice_get all x.column ≡ Some old → HaveCellsOf g xs ys all →
-    WritesPoints old new y.space (cell_of y) → length new.cells ≡ space_size new.space → HaveCellsOf g (x ∷ xs) (y ∷ ys) (slice_set all x.column new)
-one_put g xs ys all x y old new over here have write full = record {
+one_put : (g : GraphValue) (us : Unions) (xs : List Piece) (ys all : List ColumnValue) (x : Piece) (y old new : ColumnValue) → y.space ≡ piece_space g us x.space → slice_get all x.column ≡ Some old → HaveCellsOf g us xs ys all →
+    WritesPoints old new y.space (cell_of y) → length new.cells ≡ space_size new.space → HaveCellsOf g us (x ∷ xs) (y ∷ ys) (slice_set all x.column new)
+one_put g us xs ys all x y old new over here have write full = record {
   number = length-set all x.column new ∙ have.number;
   each = λ c z at. elim (cases_eq c x.column) [
     | inl e ↦ (
         let same : new ≡ z = same_Some new z (sym (set_get all x.column new (slice_get_within all x.column old here)) ∙ (ap (slice_get (slice_set all x.column new)) (sym e) ∙ at)) in
-        subst (HasCellsOf g (x ∷ xs) (y ∷ ys) c) same
-        (subst (λ k. HasCellsOf g (x ∷ xs) (y ∷ ys) k new) (sym e) (put_here g xs ys x y old new over (have.each x.column old here) write full)))
-    | inr n ↦ put_elsewhere g xs ys x y c z n (have.each c z (sym (set_get_other all x.column c new n) ∙ at))
+        subst (HasCellsOf g us (x ∷ xs) (y ∷ ys) c) same
+        (subst (λ k. HasCellsOf g us (x ∷ xs) (y ∷ ys) k new) (sym e) (put_here g us xs ys x y old new over (have.each x.column old here) write full)))
+    | inr n ↦ put_elsewhere g us xs ys x y c z n (have.each c z (sym (set_get_other all x.column c new n) ∙ at))
   ];
 }
 
 -- the piece of number n is put where those behind it are
-pub put_next : (g : GraphValue) (pieces : List Piece) (parts all : List ColumnValue) (n left : ℕ) (d : Piece) (y old new : ColumnValue) → n + 1 ≡ left → n < length pieces → slice_get parts n ≡ Some y →
-    y.space ≡ space_at g (get_or pieces n d).space → slice_get all (get_or pieces n d).column ≡ Some old → HaveCellsOf g (drop left pieces) (drop left parts) all →
-    WritesPoints old new y.space (cell_of y) → length new.cells ≡ space_size new.space → HaveCellsOf g (drop n pieces) (drop n parts) (slice_set all (get_or pieces n d).column new)
-put_next g pieces parts all n left d y old new next below at over here have write full =
+pub put_next : (g : GraphValue) (us : Unions) (pieces : List Piece) (parts all : List ColumnValue) (n left : ℕ) (d : Piece) (y old new : ColumnValue) → n + 1 ≡ left → n < length pieces → slice_get parts n ≡ Some y →
+    y.space ≡ piece_space g us (get_or pieces n d).space → slice_get all (get_or pieces n d).column ≡ Some old → HaveCellsOf g us (drop left pieces) (drop left parts) all →
+    WritesPoints old new y.space (cell_of y) → length new.cells ≡ space_size new.space → HaveCellsOf g us (drop n pieces) (drop n parts) (slice_set all (get_or pieces n d).column new)
+put_next g us pieces parts all n left d y old new next below at over here have write full =
     let x = get_or pieces n d in
     let all' = slice_set all x.column new in
     let xs : drop n pieces ≡ x ∷ drop left pieces = drop_more pieces n d below ∙ ap (λ k. x ∷ drop k pieces) next in
     let ys : drop n parts ≡ y ∷ drop left parts =
     drop_more parts n y (slice_get_within parts n y at) ∙ (ap (λ v. v ∷ drop (n + 1) parts) (get_or_from_slice_get parts n y y at) ∙ ap (λ k. y ∷ drop k parts) next) in
-    subst (λ vs. HaveCellsOf g vs (drop n parts) all') (sym xs)
-    (subst (λ vs. HaveCellsOf g (x ∷ drop left pieces) vs all') (sym ys) (one_put g (drop left pieces) (drop left parts) all x y old new over here have write full))
+    subst (λ vs. HaveCellsOf g us vs (drop n parts) all') (sym xs)
+    (subst (λ vs. HaveCellsOf g us (x ∷ drop left pieces) vs all') (sym ys) (one_put g us (drop left pieces) (drop left parts) all x y old new over here have write full))
 
 -- the space of a column is a space
 pub space_of_column : (g : GraphValue) → IsGraph g → (c : ℕ) → c < length (columns g) → IsSpace (column_space g c)
@@ -194,22 +194,22 @@ by_points of_point x f a full h =
     ∙ (h (point_at x.space k) at.0
     ∙ sym (get_or-map f (points x.space) k 0 d within))))
 
-column_joined : RankOfPoint → (g : GraphValue) (xs : List Piece) (ys : List ColumnValue) (c : ℕ) (x : ColumnValue) → length ys ≡ length xs → IsSpace (column_space g c) → HasCellsOf g xs ys c x →
-    x ≡ joined_column g (cut_of g xs) ys c
-column_joined of_point g xs ys c x e space has =
-    let cells : x.cells ≡ map (joined_cell ys (cut_of g xs) c) (points x.space) =
-    by_points of_point x (joined_cell ys (cut_of g xs) c) (subst IsSpace (sym has.space) space) has.full (λ p h. has.cells p h ∙ is_joined g c p xs ys e) in
-    let same : x.cells ≡ map (joined_cell ys (cut_of g xs) c) (points (column_space g c)) = cells ∙ ap (λ s. map (joined_cell ys (cut_of g xs) c) (points s)) has.space in
+column_joined : RankOfPoint → (g : GraphValue) (us : Unions) (xs : List Piece) (ys : List ColumnValue) (c : ℕ) (x : ColumnValue) → length ys ≡ length xs → IsSpace (column_space g c) → HasCellsOf g us xs ys c x →
+    x ≡ joined_column g (cut_of g us xs) ys c
+column_joined of_point g us xs ys c x e space has =
+    let cells : x.cells ≡ map (joined_cell ys (cut_of g us xs) c) (points x.space) =
+    by_points of_point x (joined_cell ys (cut_of g us xs) c) (subst IsSpace (sym has.space) space) has.full (λ p h. has.cells p h ∙ is_joined g us c p xs ys e) in
+    let same : x.cells ≡ map (joined_cell ys (cut_of g us xs) c) (points (column_space g c)) = cells ∙ ap (λ s. map (joined_cell ys (cut_of g us xs) c) (points s)) has.space in
     let over = has.space in
     λ i. record { space = over i; cells = same i }
 
 -- in the end all are put
-pub all_put : RankOfPoint → (g : GraphValue) → IsGraph g → (xs : List Piece) (ys all : List ColumnValue) → length ys ≡ length xs → HaveCellsOf g xs ys all →
-    all ≡ map (joined_column g (cut_of g xs) ys) (numbers_below (length (columns g)))
-all_put of_point g fits xs ys all e have =
-    let f = joined_column g (cut_of g xs) ys in
+pub all_put : RankOfPoint → (g : GraphValue) → IsGraph g → (us : Unions) (xs : List Piece) (ys all : List ColumnValue) → length ys ≡ length xs → HaveCellsOf g us xs ys all →
+    all ≡ map (joined_column g (cut_of g us xs) ys) (numbers_below (length (columns g)))
+all_put of_point g fits us xs ys all e have =
+    let f = joined_column g (cut_of g us xs) ys in
     let n = length (columns g) in
     same_lists all (map f (numbers_below n)) (have.number ∙ sym (length-map-range_with_len f 0 n)) (λ k d below.
     let within : k < n = omega (arith, have.number) in
-    column_joined of_point g xs ys k (get_or all k d) e (space_of_column g fits k within) (have.each k (get_or all k d) (slice_get-get_or all k d below))
+    column_joined of_point g us xs ys k (get_or all k d) e (space_of_column g fits k within) (have.each k (get_or all k d) (slice_get-get_or all k d below))
     ∙ sym (get_or-map-range_with_len f 0 n k k d within (let z : 0 + k ≡ k = omega arith in z)))

@@ -12,7 +12,7 @@ ghost use Rattle.column_pieces.specs.Joined.{joined, joined_column};
 ghost use Rattle.column_pieces.specs.Pieces.{ArePieces, cut_of};
 ghost use Rattle.joined_columns.specs.Over.{AreOver};
 
-use column_pieces::pieces::Piece;
+use column_pieces::pieces::{Piece, Pieces};
 use graph_model::graph::Graph;
 use graph_terms::lists::ColumnList;
 use graph_terms::outcome::Outcome;
@@ -20,6 +20,7 @@ use index_spaces::NoMemory;
 use index_spaces::column::Column;
 use index_spaces::laws::{rank_of_point, runs_of_spaces, spaces_are_written};
 use index_spaces::room::{push_within, with_room};
+use index_spaces::space::Space;
 use std::alloc::Global;
 
 /// The outcome of a graph of pieces with columns in place of pieces. A cell is that of its piece, and 0
@@ -27,14 +28,14 @@ use std::alloc::Global;
 pub fn join(
     alloc: Global,
     graph: &Graph,
-    pieces: &[Piece],
+    cut: &Pieces,
     mut outcome: Outcome,
 ) -> Result<Outcome, NoMemory>
-    requires pieces { ArePieces graph.now pieces.now }
-    requires over { AreOver graph.now pieces.now outcome.columns }
-    ensures { IfOk result (λ o. o ≡ joined graph.now (cut_of graph.now pieces.now) outcome) }
+    requires pieces { ArePieces graph.now cut.now.unions.items cut.now.pieces.items }
+    requires over { AreOver graph.now cut.now.unions.items cut.now.pieces.items outcome.columns }
+    ensures { IfOk result (λ o. o ≡ joined graph.now (cut_of graph.now cut.now.unions.items cut.now.pieces.items) outcome) }
 {
-    outcome.columns = joined_columns(alloc, graph, pieces, &outcome.columns)?;
+    outcome.columns = joined_columns(alloc, graph, &cut.unions, &cut.pieces, &outcome.columns)?;
     Ok(outcome)
 }
 
@@ -43,13 +44,14 @@ pub fn join(
 fn joined_columns(
     alloc: Global,
     graph: &Graph,
+    unions: &[Space],
     pieces: &[Piece],
     parts: &ColumnList,
 ) -> Result<ColumnList, NoMemory>
-    requires pieces { ArePieces graph.now pieces.now }
-    requires over { AreOver graph.now pieces.now parts.now }
-    ensures { IfOk result (λ joined.
-        joined ≡ map (joined_column graph.now (cut_of graph.now pieces.now) parts.now) (numbers_below (length (columns graph.now)))) }
+    requires pieces { ArePieces graph.now unions.now pieces.now }
+    requires over { AreOver graph.now unions.now pieces.now parts.now }
+    ensures { IfOk result (λ joined. joined ≡
+        map (joined_column graph.now (cut_of graph.now unions.now pieces.now) parts.now) (numbers_below (length (columns graph.now)))) }
 {
     rank_of_point();
     let _ = graph.lines();

@@ -17,7 +17,7 @@ use Rattle.graph_terms.specs.Name.{is_later_byte, is_first_byte, is_name_in}
 use Rattle.graph_terms.specs.Graph.{GraphValue}
 use Rattle.graph_terms.specs.Fits.{is_decl_named, IsDecl, DeclsFit, LinesFit, decl_fault, line_fault, with_decl, with_line}
 use Rattle.column_pieces.specs.Cut.{line_on, lines_on}
-use Rattle.column_pieces.specs.Pieces.{letter, piece_name, piece_decl, piece_decls, is_kept}
+use Rattle.column_pieces.specs.Pieces.{Unions, letter, union_name, union_decls, piece_name, piece_decl, piece_decls, is_kept}
 use Rattle.column_pieces.specs.declared.pieces.Piece.{Piece}
 use Rattle.piece_graphs.specs.Items.{of_decls, with_kept}
 
@@ -33,6 +33,13 @@ later_is n = or_left (is_first_byte (letter n)) (is_ascii_digit (letter n)) (or_
 
 pub piece_named : (k : ℕ) → is_name_in Three (piece_name k) ≡ true
 piece_named k =
+    and_from (is_later_byte (letter (k / 4096))) _ (later_is (k / 4096))
+    (and_from (is_later_byte (letter (k / 256))) _ (later_is (k / 256))
+    (and_from (is_later_byte (letter (k / 16))) _ (later_is (k / 16))
+    (and_from (is_later_byte (letter k)) true (later_is k) refl)))
+
+pub union_named : (k : ℕ) → is_name_in Three (union_name k) ≡ true
+union_named k =
     and_from (is_later_byte (letter (k / 4096))) _ (later_is (k / 4096))
     (and_from (is_later_byte (letter (k / 256))) _ (later_is (k / 256))
     (and_from (is_later_byte (letter (k / 16))) _ (later_is (k / 16))
@@ -111,9 +118,6 @@ decl_at xs k x at =
     let same : 0 + k ≡ k = omega arith in
     subst (λ m. slice_get (piece_decls 0 xs) k ≡ Some (piece_decl m x)) same (decls_got 0 xs k x at)
 
-pub pieces_more : (ds : List Decl) (xs : List Piece) (k : ℕ) (x : Piece) → slice_get xs k ≡ Some x → ds ++ take (k + 1) (piece_decls 0 xs) ≡ (ds ++ take k (piece_decls 0 xs)) ++ piece_decl k x ∷ []
-pieces_more ds xs k x at = ap (λ ys. ds ++ ys) (take_more (piece_decls 0 xs) k (piece_decl k x) (decl_at xs k x at)) ∙ sym (append_assoc ds (take k (piece_decls 0 xs)) (piece_decl k x ∷ []))
-
 pub pieces_all : (ds : List Decl) (xs : List Piece) (k : ℕ) → length xs ≤ k → ds ++ take k (piece_decls 0 xs) ≡ ds ++ piece_decls 0 xs
 pieces_all ds xs k all =
     let size : length (piece_decls 0 xs) ≡ length xs = decls_length 0 xs in
@@ -125,20 +129,59 @@ split_at [] k x at = absurd (none-some x at)
 split_at (y ∷ ys) zero x at = (ys, ap (λ z. z ∷ ys) (same_Some y x at))
 split_at (y ∷ ys) (suc k) x at = let r = split_at ys k x at in (r.0, ap (λ zs. y ∷ zs) r.1)
 
-pub pieces_rest : (ds : List Decl) (xs : List Piece) (k : ℕ) (x : Piece) → slice_get xs k ≡ Some x → (rest : List Decl) × (ds ++ piece_decls 0 xs ≡ (ds ++ take k (piece_decls 0 xs)) ++ piece_decl k x ∷ rest)
-pieces_rest ds xs k x at =
-    let r = split_at (piece_decls 0 xs) k (piece_decl k x) (decl_at xs k x at) in
-    (r.0, ap (λ ys. ds ++ ys) r.1 ∙ sym (append_assoc ds (take k (piece_decls 0 xs)) (piece_decl k x ∷ r.0)))
+-- one more declaration of a list
+items_step : (cut new : GraphValue) (ds es : List Decl) (k : ℕ) (d e : Decl) → slice_get es k ≡ Some d → cut ≡ of_decls (ds ++ take k es) → e ≡ d → new ≡ with_decl cut e → new ≡ of_decls (ds ++ take (k + 1) es)
+items_step cut new ds es k d e at is same added =
+    added ∙ (ap (λ y. with_decl y e) is ∙ (ap (with_decl (of_decls (ds ++ take k es))) same
+    ∙ ap of_decls (append_assoc ds (take k es) (d ∷ []) ∙ ap (λ ys. ds ++ ys) (sym (take_more es k d at)))))
 
-pub piece_step : (cut new : GraphValue) (ds : List Decl) (xs : List Piece) (k : ℕ) (x : Piece) (e : Decl) → slice_get xs k ≡ Some x → cut ≡ of_decls (ds ++ take k (piece_decls 0 xs)) → e ≡ piece_decl k x → new ≡ with_decl cut e →
+items_unfit : (cut : GraphValue) (ds es : List Decl) (k : ℕ) (d e : Decl) → slice_get es k ≡ Some d → cut ≡ of_decls (ds ++ take k es) → e ≡ d → (decl_fault cut e ≡ None → ⊥) → DeclsFit Three [] (ds ++ es) → ⊥
+items_unfit cut ds es k d e at is same refused =
+    let r = split_at es k d at in
+    no_more_fit (ds ++ take k es) d r.0 (ds ++ es) (ap (λ ys. ds ++ ys) r.1 ∙ sym (append_assoc ds (take k es) (d ∷ r.0)))
+    (λ n. refused (ap (λ y. decl_fault y e) is ∙ (ap (decl_fault (of_decls (ds ++ take k es))) same ∙ n)))
+
+-- the declarations of unions
+unions_length : (n : ℕ) (us : Unions) → length (union_decls n us) ≡ length us
+unions_length n [] = refl
+unions_length n (u ∷ us) = ap suc (unions_length (n + 1) us)
+
+unions_got : (n : ℕ) (us : Unions) (k : ℕ) (t : List (ℕ × ℕ)) → slice_get us k ≡ Some t → slice_get (union_decls n us) k ≡ Some (Space (union_name (n + k)) t)
+unions_got n [] k t at = absurd (none-some t at)
+unions_got n (u ∷ us) zero t at =
+    let same : n ≡ n + zero = omega arith in
+    subst (λ m. Some (Space (union_name n) u) ≡ Some (Space (union_name m) t)) same (ap (λ v. Some (Space (union_name n) v)) (same_Some u t at))
+unions_got n (u ∷ us) (suc k) t at =
+    let same : n + 1 + k ≡ n + suc k = omega arith in
+    subst (λ m. slice_get (union_decls (n + 1) us) k ≡ Some (Space (union_name m) t)) same (unions_got (n + 1) us k t at)
+
+union_at : (us : Unions) (k : ℕ) (t : List (ℕ × ℕ)) → slice_get us k ≡ Some t → slice_get (union_decls 0 us) k ≡ Some (Space (union_name k) t)
+union_at us k t at =
+    let same : 0 + k ≡ k = omega arith in
+    subst (λ m. slice_get (union_decls 0 us) k ≡ Some (Space (union_name m) t)) same (unions_got 0 us k t at)
+
+pub unions_all : (ds : List Decl) (us : Unions) (k : ℕ) → length us ≤ k → ds ++ take k (union_decls 0 us) ≡ ds ++ union_decls 0 us
+unions_all ds us k all =
+    let size : length (union_decls 0 us) ≡ length us = unions_length 0 us in
+    let enough : length (union_decls 0 us) ≤ k = omega (arith, size, all) in
+    ap (λ ys. ds ++ ys) (take_all k (union_decls 0 us) enough)
+
+pub union_next : (cut new : GraphValue) (ds : List Decl) (us : Unions) (k : ℕ) (t : List (ℕ × ℕ)) (e : Decl) → slice_get us k ≡ Some t → cut ≡ of_decls (ds ++ take k (union_decls 0 us)) → e ≡ Space (union_name k) t → new ≡ with_decl cut e →
+    new ≡ of_decls (ds ++ take (k + 1) (union_decls 0 us))
+union_next cut new ds us k t e at = items_step cut new ds (union_decls 0 us) k (Space (union_name k) t) e (union_at us k t at)
+
+pub union_refused : (cut : GraphValue) (ds : List Decl) (us : Unions) (k : ℕ) (t : List (ℕ × ℕ)) (e : Decl) → slice_get us k ≡ Some t → cut ≡ of_decls (ds ++ take k (union_decls 0 us)) → e ≡ Space (union_name k) t → (decl_fault cut e ≡ None → ⊥) →
+    DeclsFit Three [] (ds ++ union_decls 0 us) → ⊥
+union_refused cut ds us k t e at = items_unfit cut ds (union_decls 0 us) k (Space (union_name k) t) e (union_at us k t at)
+
+-- the instances of pieces
+piece_step : (cut new : GraphValue) (ds : List Decl) (xs : List Piece) (k : ℕ) (x : Piece) (e : Decl) → slice_get xs k ≡ Some x → cut ≡ of_decls (ds ++ take k (piece_decls 0 xs)) → e ≡ piece_decl k x → new ≡ with_decl cut e →
     new ≡ of_decls (ds ++ take (k + 1) (piece_decls 0 xs))
-piece_step cut new ds xs k x e at is same added = added ∙ (ap (λ y. with_decl y e) is ∙ (ap (with_decl (of_decls (ds ++ take k (piece_decls 0 xs)))) same ∙ ap of_decls (sym (pieces_more ds xs k x at))))
+piece_step cut new ds xs k x e at = items_step cut new ds (piece_decls 0 xs) k (piece_decl k x) e (decl_at xs k x at)
 
-pub piece_unfit : (cut : GraphValue) (ds : List Decl) (xs : List Piece) (k : ℕ) (x : Piece) (e : Decl) → slice_get xs k ≡ Some x → cut ≡ of_decls (ds ++ take k (piece_decls 0 xs)) → e ≡ piece_decl k x → (decl_fault cut e ≡ None → ⊥) →
+piece_unfit : (cut : GraphValue) (ds : List Decl) (xs : List Piece) (k : ℕ) (x : Piece) (e : Decl) → slice_get xs k ≡ Some x → cut ≡ of_decls (ds ++ take k (piece_decls 0 xs)) → e ≡ piece_decl k x → (decl_fault cut e ≡ None → ⊥) →
     DeclsFit Three [] (ds ++ piece_decls 0 xs) → ⊥
-piece_unfit cut ds xs k x e at is same refused =
-    let r = pieces_rest ds xs k x at in
-    no_more_fit (ds ++ take k (piece_decls 0 xs)) (piece_decl k x) r.0 (ds ++ piece_decls 0 xs) r.1 (λ n. refused (ap (λ y. decl_fault y e) is ∙ (ap (decl_fault (of_decls (ds ++ take k (piece_decls 0 xs)))) same ∙ n)))
+piece_unfit cut ds xs k x e at = items_unfit cut ds (piece_decls 0 xs) k (piece_decl k x) e (decl_at xs k x at)
 
 -- the same at the piece of a place
 pub piece_next : (cut new : GraphValue) (ds : List Decl) (xs : List Piece) (k n : ℕ) (x : Piece) (e : Decl) → k < length xs → n ≡ k → cut ≡ of_decls (ds ++ take k (piece_decls 0 xs)) → e ≡ piece_decl n (get_or xs k x) → new ≡ with_decl cut e →

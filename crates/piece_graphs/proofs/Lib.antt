@@ -1,7 +1,5 @@
-mod Spaces
-mod Search
-mod Chosen
-mod Numbers
-mod Naming
-mod Items
-mod InPieces
+pub mod Owned
+pub mod Naming
+pub mod Numbers
+pub mod Items
+pub mod InPieces

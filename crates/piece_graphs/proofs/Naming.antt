@@ -22,10 +22,10 @@ use Rattle.graph_terms.specs.Fits.{IsGraph}
 use Rattle.graph_terms.specs.Access.{access, accesses, in_format, verb_accesses}
 use Rattle.graph_meaning.proofs.Public.{accesses_fit}
 use Rattle.column_pieces.specs.Cut.{kernel_on, verb_on, line_on}
-use Rattle.column_pieces.specs.Pieces.{has_cell, piece_at, named_at, ArePieces}
+use Rattle.column_pieces.specs.Pieces.{Unions, piece_space, has_cell, piece_at, named_at, ArePieces}
 use Rattle.column_pieces.specs.declared.pieces.Piece.{Piece}
 use Rattle.piece_graphs.specs.Naming.{place_of, name_of}
-use Rattle.piece_graphs.proofs.Spaces.{first_point}
+use Rattle.column_parts.proofs.Public.{first_point}
 
 -- VERBS
 -- two ways to name columns that agree on what a verb accesses give the same verb
@@ -77,38 +77,38 @@ stays r v fill copy reduce task = refl
 pub some_place : (t : Piece → Bool) (pieces : List Piece) (x : Piece) → Contains pieces x → t x ≡ true → (k : ℕ) × (position t pieces ≡ Some k)
 some_place t pieces x c h = some_is (position t pieces) (sym (position_any t pieces) ∙ passes_some t pieces x c h)
 
-module _ (g : GraphValue) (pieces : List Piece) (fits : IsGraph g) (are : ArePieces g pieces) where
+module _ (g : GraphValue) (us : Unions) (pieces : List Piece) (fits : IsGraph g) (are : ArePieces g us pieces) where
   -- the piece of an access
-  placed : (i : ℕ) (a : Access) → Contains (accesses g i) a → place_of g pieces a.column (point_at (space_at g a.space) 0) ≡ piece_at g pieces a.column (point_at (space_at g a.space) 0)
+  placed : (i : ℕ) (a : Access) → Contains (accesses g i) a → place_of g us pieces a.column (point_at (space_at g a.space) 0) ≡ piece_at g us pieces a.column (point_at (space_at g a.space) 0)
   placed i a c =
       let x = are.covers i a c in
       let p : ℕ = point_at (space_at g a.space) 0 in
       let h : has_point (space_at g a.space) p ≡ true = first_point (space_at g a.space) (accesses_fit g i a fits c).is_space in
-      let at : has_cell g a.column p x.0 ≡ true = and_from (x.0.column == a.column) (has_point (space_at g x.0.space) p) (eq-eqb x.0.column a.column x.2) (x.3 p h) in
-      let k = some_place (has_cell g a.column p) pieces x.0 x.1 at in
+      let at : has_cell g us a.column p x.0 ≡ true = and_from (x.0.column == a.column) (has_point (piece_space g us x.0.space) p) (eq-eqb x.0.column a.column x.2) (x.3 p h) in
+      let k = some_place (has_cell g us a.column p) pieces x.0 x.1 at in
       ap (λ o. option_map_or (λ (j : ℕ). j) o a.column) k.1 ∙ sym (ap (λ o. option_map_or (λ (j : ℕ). j) o (length pieces + a.column)) k.1)
 
   named_by : (i : ℕ) (a : Access) → Contains (accesses g i) a → (o : Option Access) → find (λ (b : Access). b.column == a.column) (accesses g i) ≡ o →
-      option_map_or (λ (b : Access). place_of g pieces a.column (point_at (space_at g b.space) 0)) o a.column
-      ≡ option_map_or (λ (b : Access). piece_at g pieces a.column (point_at (space_at g b.space) 0)) o (length pieces + a.column)
+      option_map_or (λ (b : Access). place_of g us pieces a.column (point_at (space_at g b.space) 0)) o a.column
+      ≡ option_map_or (λ (b : Access). piece_at g us pieces a.column (point_at (space_at g b.space) 0)) o (length pieces + a.column)
   named_by i a c None e = absurd (true≢false (sym (eq-eqb a.column a.column refl) ∙ find_none (λ (b : Access). b.column == a.column) (accesses g i) e a c))
   named_by i a c (Some b) e =
       let f = find_is (λ (x : Access). x.column == a.column) (accesses g i) b e in
       let same : b.column ≡ a.column = eqb-true b.column a.column f.1 in
-      subst (λ d. place_of g pieces d (point_at (space_at g b.space) 0) ≡ piece_at g pieces d (point_at (space_at g b.space) 0)) same (placed i b f.0)
+      subst (λ d. place_of g us pieces d (point_at (space_at g b.space) 0) ≡ piece_at g us pieces d (point_at (space_at g b.space) 0)) same (placed i b f.0)
 
-  same_name : (i : ℕ) (a : Access) → Contains (accesses g i) a → name_of g pieces i a.column ≡ named_at g pieces i a.column
+  same_name : (i : ℕ) (a : Access) → Contains (accesses g i) a → name_of g us pieces i a.column ≡ named_at g us pieces i a.column
   same_name i a c = named_by i a c (find (λ (b : Access). b.column == a.column) (accesses g i)) refl
 
   -- the verb of a line
-  pub verb_named : (i : ℕ) (l : Line) → slice_get g.lines i ≡ Some l → verb_on (name_of g pieces i) l.verb ≡ verb_on (named_at g pieces i) l.verb
-  verb_named i l at = same_verb g.format (name_of g pieces i) (named_at g pieces i) l.verb (λ k a got. same_name i a (got_contains (accesses g i) k a (there k a got)))
+  pub verb_named : (i : ℕ) (l : Line) → slice_get g.lines i ≡ Some l → verb_on (name_of g us pieces i) l.verb ≡ verb_on (named_at g us pieces i) l.verb
+  verb_named i l at = same_verb g.format (name_of g us pieces i) (named_at g us pieces i) l.verb (λ k a got. same_name i a (got_contains (accesses g i) k a (there k a got)))
     where
       there : (k : ℕ) (a : Access) → slice_get (map (in_format g.format) (verb_accesses l.verb)) k ≡ Some a → slice_get (accesses g i) k ≡ Some a
       there k a got = ap (λ (o : Option Line). slice_get (map (in_format g.format) (option_map_or verb_accesses (option_map (λ (x : Line). x.verb) o) [])) k) at ∙ got
 
   -- and the line
-  pub line_named : (i : ℕ) (l copy line : Line) → slice_get g.lines i ≡ Some l → copy ≡ l → line ≡ record { name = copy.name; verb = verb_on (name_of g pieces i) copy.verb; «on» = copy.on } → line ≡ line_on (named_at g pieces i) l
+  pub line_named : (i : ℕ) (l copy line : Line) → slice_get g.lines i ≡ Some l → copy ≡ l → line ≡ record { name = copy.name; verb = verb_on (name_of g us pieces i) copy.verb; «on» = copy.on } → line ≡ line_on (named_at g us pieces i) l
   line_named i l copy line at same made =
-      made ∙ (ap (λ (x : Line). record { name = x.name; verb = verb_on (name_of g pieces i) x.verb; «on» = x.on }) same
+      made ∙ (ap (λ (x : Line). record { name = x.name; verb = verb_on (name_of g us pieces i) x.verb; «on» = x.on }) same
       ∙ ap (λ (v : Verb). record { name = l.name; verb = v; «on» = l.on }) (verb_named i l at))

@@ -1,5 +1,5 @@
 pub mod Uncut
-pub mod Search
+pub mod Over
 pub mod Numbered
 pub mod Naming
 pub mod Items

@@ -1,11 +1,12 @@
 -- The pieces of all columns, and their numbers.
-use Rattle.std.specs.Prelude.{◌≡◌, ℕ, ◌≤◌, List, [], ◌∷◌, ◌++◌, length, take, slice_get, Some, Vec}
+use Rattle.std.specs.Prelude.{◌≡◌, ℕ, ◌≤◌, nat_lt, Bool, List, [], ◌∷◌, ◌++◌, length, take, slice_get, Some, Vec}
 use Rattle.std.specs.Global.{Global}
+use Rattle.std.specs.List.{list_any}
 use Rattle.column_pieces.specs.declared.pieces.Piece.{Piece}
 use Rattle.piece_graphs.specs.declared.limits.TheConstants.{MAX_PIECES}
 use Rattle.graph_terms.specs.Graph.{GraphValue}
 use Rattle.piece_graphs.specs.declared.numbered.ColumnPieces.{ColumnPieces}
-use Rattle.piece_graphs.specs.Search.{AreLists}
+use Rattle.piece_graphs.specs.Over.{AreOwnPieces}
 
 -- the pieces of all columns, one column after another
 abbrev pub all_pieces : List (Vec Piece Global) → List Piece
@@ -29,5 +30,9 @@ pub record AreNumbered (x : ColumnPieces) : Type 0 where
 
 -- and are pieces of the columns of a graph
 pub record AreColumns (g : GraphValue) (x : ColumnPieces) : Type 0 where
-  pub lists : AreLists g x.lists.items
+  pub lists : AreOwnPieces g x.unions.items x.lists.items
   pub numbered : AreNumbered x
+
+-- a column has two pieces
+abbrev pub has_two : List (Vec Piece Global) → Bool
+has_two lists = list_any (λ (v : Vec Piece Global). nat_lt 1 (length v.items)) lists

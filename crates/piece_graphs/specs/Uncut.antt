@@ -3,7 +3,7 @@ use Rattle.std.specs.Prelude.{◌≡◌, ℕ, ◌<◌, ◌≤◌, ◌==◌, List
 use Rattle.piece_graphs.specs.declared.limits.TheConstants.{MAX_PIECES}
 use Rattle.graph_terms.specs.Graph.{GraphValue}
 use Rattle.graph_terms.specs.Fits.{IsGraph}
-use Rattle.column_pieces.specs.Pieces.{ArePieces, graph_of_pieces}
+use Rattle.column_pieces.specs.Pieces.{Unions, ArePieces, graph_of_pieces}
 use Rattle.column_pieces.specs.declared.pieces.Piece.{Piece}
 use Rattle.column_pieces.specs.declared.pieces.TheConstants.{MAX_COLUMN_PIECES}
 
@@ -22,6 +22,6 @@ FewEach pieces = (c : ℕ) → length (filter (λ (x : Piece). x.column == c) pi
 
 -- The columns of a graph are not cut: they have one piece each, or all have more pieces than a graph is cut into, or the graph of pieces is no graph.
 pub data IsUncut (g : GraphValue) : Type 0 where
-  whole : (pieces : List Piece) → ArePieces g pieces → OneEach pieces → IsUncut g
-  many : (pieces : List Piece) → ArePieces g pieces → AreOnce pieces → FewEach pieces → MAX_PIECES < length pieces → IsUncut g
-  unfit : (pieces : List Piece) → ArePieces g pieces → AreOnce pieces → FewEach pieces → (IsGraph (graph_of_pieces g pieces) → ⊥) → IsUncut g
+  whole : (unions : Unions) (pieces : List Piece) → ArePieces g unions pieces → OneEach pieces → IsUncut g
+  many : (unions : Unions) (pieces : List Piece) → ArePieces g unions pieces → AreOnce pieces → FewEach pieces → MAX_PIECES < length pieces → IsUncut g
+  unfit : (unions : Unions) (pieces : List Piece) → ArePieces g unions pieces → AreOnce pieces → FewEach pieces → (IsGraph (graph_of_pieces g unions pieces) → ⊥) → IsUncut g

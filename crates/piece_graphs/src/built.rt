@@ -1,12 +1,12 @@
 //! The graph of pieces, item by item.
 
-ghost use Rattle.std.specs.Prelude.{◌≡◌, filter, None, IfOk, IfSome};
+ghost use Rattle.std.specs.Prelude.{◌≡◌, ◌++◌, filter, None, IfOk, IfSome};
 ghost use Rattle.graph_terms.specs.Fits.{IsGraph};
-ghost use Rattle.column_pieces.specs.Pieces.{is_kept, ArePieces, graph_of_pieces};
+ghost use Rattle.column_pieces.specs.Pieces.{is_kept, union_decls, ArePieces, graph_of_pieces};
 ghost use Rattle.piece_graphs.specs.Items.{of_decls};
 ghost use Rattle.piece_graphs.specs.Numbered.{AreColumns};
 
-use crate::decls::{kept_decls, with_pieces};
+use crate::decls::{kept_decls, with_pieces, with_unions};
 use crate::lines::with_lines;
 use crate::numbered::ColumnPieces;
 use graph_model::graph::Graph;
@@ -19,10 +19,10 @@ pub(crate) fn graph_of_pieces(
     graph: &Graph,
     columns: &ColumnPieces,
 ) -> Result<Option<Graph>, NoMemory>
-    requires pieces { ArePieces graph.now columns.now.pieces.items }
+    requires pieces { ArePieces graph.now columns.now.unions.items columns.now.pieces.items }
     requires columns { AreColumns graph.now columns.now }
-    ensures some { IfOk result (λ o. IfSome o (λ g. g ≡ graph_of_pieces graph.now columns.now.pieces.items)) }
-    ensures none { IfOk result (λ o. o ≡ None → IsGraph (graph_of_pieces graph.now columns.now.pieces.items) → ⊥) }
+    ensures some { IfOk result (λ o. IfSome o (λ g. g ≡ graph_of_pieces graph.now columns.now.unions.items columns.now.pieces.items)) }
+    ensures none { IfOk result (λ o. o ≡ None → IsGraph (graph_of_pieces graph.now columns.now.unions.items columns.now.pieces.items) → ⊥) }
 {
     match kept_decls(alloc, graph)? {
         Some(kept) => with_items(alloc, kept, graph, columns),
@@ -37,13 +37,32 @@ fn with_items(
     graph: &Graph,
     columns: &ColumnPieces,
 ) -> Result<Option<Graph>, NoMemory>
-    requires pieces { ArePieces graph.now columns.now.pieces.items }
+    requires pieces { ArePieces graph.now columns.now.unions.items columns.now.pieces.items }
     requires columns { AreColumns graph.now columns.now }
     requires kept { kept ≡ of_decls (filter is_kept graph.now.decls) }
-    ensures some { IfOk result (λ o. IfSome o (λ g. g ≡ graph_of_pieces graph.now columns.now.pieces.items)) }
-    ensures none { IfOk result (λ o. o ≡ None → IsGraph (graph_of_pieces graph.now columns.now.pieces.items) → ⊥) }
+    ensures some { IfOk result (λ o. IfSome o (λ g. g ≡ graph_of_pieces graph.now columns.now.unions.items columns.now.pieces.items)) }
+    ensures none { IfOk result (λ o. o ≡ None → IsGraph (graph_of_pieces graph.now columns.now.unions.items columns.now.pieces.items) → ⊥) }
 {
-    match with_pieces(alloc, kept, &columns.pieces)? {
+    match with_unions(alloc, kept, &columns.unions)? {
+        Some(spaces) => with_instances(alloc, spaces, graph, columns),
+        None => Ok(None),
+    }
+}
+
+/// The same, over these and the unions.
+fn with_instances(
+    alloc: Global,
+    spaces: Graph,
+    graph: &Graph,
+    columns: &ColumnPieces,
+) -> Result<Option<Graph>, NoMemory>
+    requires pieces { ArePieces graph.now columns.now.unions.items columns.now.pieces.items }
+    requires columns { AreColumns graph.now columns.now }
+    requires spaces { spaces ≡ of_decls (filter is_kept graph.now.decls ++ union_decls 0 columns.now.unions.items) }
+    ensures some { IfOk result (λ o. IfSome o (λ g. g ≡ graph_of_pieces graph.now columns.now.unions.items columns.now.pieces.items)) }
+    ensures none { IfOk result (λ o. o ≡ None → IsGraph (graph_of_pieces graph.now columns.now.unions.items columns.now.pieces.items) → ⊥) }
+{
+    match with_pieces(alloc, spaces, &columns.pieces)? {
         Some(cut) => with_lines(alloc, cut, graph, columns),
         None => Ok(None),
     }

@@ -4,13 +4,14 @@ ghost use Rattle.std.specs.Prelude.{◌≡◌, ◌≤◌, length, true, None, If
 ghost use Rattle.piece_graphs.specs.declared.limits.TheConstants.{MAX_PIECES};
 ghost use Rattle.column_pieces.specs.Pieces.{ArePieces, graph_of_pieces};
 ghost use Rattle.piece_graphs.specs.Uncut.{AreOnce, OneEach, FewEach, IsUncut};
-ghost use Rattle.piece_graphs.specs.Numbered.{AreNumbered};
-ghost use Rattle.piece_graphs.specs.Search.{has_two, AreFound};
+ghost use Rattle.piece_graphs.specs.Numbered.{AreNumbered, has_two};
+ghost use Rattle.piece_graphs.specs.Over.{AreOwnPieces};
 
 use crate::built::graph_of_pieces;
-use crate::found::find_pieces;
 use crate::numbered::{ColumnPieces, number};
-use column_pieces::pieces::Piece;
+use crate::over::pieces_over;
+use column_parts::find_parts;
+use column_pieces::pieces::{Piece, Pieces};
 use graph_model::graph::Graph;
 use index_spaces::NoMemory;
 use std::alloc::Global;
@@ -21,26 +22,28 @@ pub struct CutGraph {
     /// The graph of pieces, in format 3.
     pub graph: Graph,
     /// The pieces, each by the number of its column there.
-    pub pieces: Vec<Piece>,
+    pub pieces: Pieces,
 }
 
-/// The pieces of a graph, and the graph of pieces. A column is one piece where its spaces cross, or
-/// more than `MAX_COLUMN_PIECES` of them lie apart. `None` where no column has two pieces, where all
+/// The pieces of a graph, and the graph of pieces. A column stays one piece where more than
+/// `MAX_COLUMN_PIECES` of its spaces lie apart. `None` where no column has two pieces, where all
 /// have more than `MAX_PIECES`, or where the graph of pieces would pass a limit or give a name twice.
 pub fn cut_columns(alloc: Global, graph: &Graph) -> Result<Option<CutGraph>, NoMemory>
-    ensures pieces { IfOk result (λ o. IfSome o (λ x. ArePieces graph.now x.pieces.items)) }
-    ensures once { IfOk result (λ o. IfSome o (λ x. AreOnce x.pieces.items)) }
-    ensures few_each { IfOk result (λ o. IfSome o (λ x. FewEach x.pieces.items)) }
-    ensures few { IfOk result (λ o. IfSome o (λ x. length x.pieces.items ≤ MAX_PIECES)) }
-    ensures graph { IfOk result (λ o. IfSome o (λ x. x.graph ≡ graph_of_pieces graph.now x.pieces.items)) }
-    ensures cut { IfOk result (λ o. IfSome o (λ x. OneEach x.pieces.items → ⊥)) }
+    ensures pieces { IfOk result (λ o. IfSome o (λ x. ArePieces graph.now x.pieces.unions.items x.pieces.pieces.items)) }
+    ensures once { IfOk result (λ o. IfSome o (λ x. AreOnce x.pieces.pieces.items)) }
+    ensures few_each { IfOk result (λ o. IfSome o (λ x. FewEach x.pieces.pieces.items)) }
+    ensures few { IfOk result (λ o. IfSome o (λ x. length x.pieces.pieces.items ≤ MAX_PIECES)) }
+    ensures graph { IfOk result (λ o. IfSome o (λ x. x.graph ≡ graph_of_pieces graph.now x.pieces.unions.items x.pieces.pieces.items)) }
+    ensures cut { IfOk result (λ o. IfSome o (λ x. OneEach x.pieces.pieces.items → ⊥)) }
     ensures none { IfOk result (λ o. o ≡ None → IsUncut graph.now) }
 {
-    let lists = find_pieces(alloc, graph)?;
-    if !has_two(&lists) {
+    let _ = graph.lines();
+    let parts = find_parts(alloc, graph)?;
+    let own = pieces_over(alloc, graph, &parts)?;
+    if !has_two(&own.lists) {
         return Ok(None);
     }
-    match number(alloc, lists)? {
+    match number(alloc, own)? {
         Some(columns) => cut_by(alloc, graph, columns),
         None => Ok(None),
     }
@@ -55,21 +58,25 @@ fn has_two(lists: &[Vec<Piece>]) -> bool
 
 /// The graph of these pieces, where it is a graph.
 fn cut_by(alloc: Global, graph: &Graph, columns: ColumnPieces) -> Result<Option<CutGraph>, NoMemory>
-    requires found { AreFound graph.now columns.lists.items (length graph.now.lines) }
+    requires own { AreOwnPieces graph.now columns.unions.items columns.lists.items }
     requires numbered { AreNumbered columns }
     requires two { has_two columns.lists.items ≡ true }
-    ensures pieces { IfOk result (λ o. IfSome o (λ x. ArePieces graph.now x.pieces.items)) }
-    ensures once { IfOk result (λ o. IfSome o (λ x. AreOnce x.pieces.items)) }
-    ensures few_each { IfOk result (λ o. IfSome o (λ x. FewEach x.pieces.items)) }
-    ensures few { IfOk result (λ o. IfSome o (λ x. length x.pieces.items ≤ MAX_PIECES)) }
-    ensures graph { IfOk result (λ o. IfSome o (λ x. x.graph ≡ graph_of_pieces graph.now x.pieces.items)) }
-    ensures cut { IfOk result (λ o. IfSome o (λ x. OneEach x.pieces.items → ⊥)) }
+    ensures pieces { IfOk result (λ o. IfSome o (λ x. ArePieces graph.now x.pieces.unions.items x.pieces.pieces.items)) }
+    ensures once { IfOk result (λ o. IfSome o (λ x. AreOnce x.pieces.pieces.items)) }
+    ensures few_each { IfOk result (λ o. IfSome o (λ x. FewEach x.pieces.pieces.items)) }
+    ensures few { IfOk result (λ o. IfSome o (λ x. length x.pieces.pieces.items ≤ MAX_PIECES)) }
+    ensures graph { IfOk result (λ o. IfSome o (λ x. x.graph ≡ graph_of_pieces graph.now x.pieces.unions.items x.pieces.pieces.items)) }
+    ensures cut { IfOk result (λ o. IfSome o (λ x. OneEach x.pieces.pieces.items → ⊥)) }
     ensures none { IfOk result (λ o. o ≡ None → IsUncut graph.now) }
 {
+    let _ = graph.lines();
     match graph_of_pieces(alloc, graph, &columns)? {
         Some(cut) => Ok(Some(CutGraph {
             graph: cut,
-            pieces: columns.pieces,
+            pieces: Pieces {
+                unions: columns.unions,
+                pieces: columns.pieces,
+            },
         })),
         None => Ok(None),
     }

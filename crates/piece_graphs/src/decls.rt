@@ -5,7 +5,7 @@ ghost use Rattle.graph_terms.specs.declared.format.Format.TheVariants.{Three};
 ghost use Rattle.piece_graphs.specs.declared.limits.TheConstants.{MAX_PIECES};
 ghost use Rattle.graph_terms.specs.Fits.{decl_fault, with_decl, DeclsFit};
 ghost use Rattle.piece_graphs.specs.Items.{of_decls, with_kept};
-ghost use Rattle.column_pieces.specs.Pieces.{is_kept, letter, piece_name, piece_decl, piece_decls};
+ghost use Rattle.column_pieces.specs.Pieces.{is_kept, letter, union_name, union_decls, piece_name, piece_decl, piece_decls};
 
 use column_pieces::pieces::Piece;
 use graph_copies::copy_of_decl;
@@ -15,6 +15,8 @@ use graph_terms::format::Format;
 use graph_terms::lists::NameList;
 use graph_terms::name::Name;
 use index_spaces::NoMemory;
+use index_spaces::space::Space;
+use space_unions::copy_of;
 use std::alloc::Global;
 
 /// The declarations of a graph that are no instances, in format 3. `None` exactly where one of them
@@ -26,6 +28,25 @@ pub(crate) fn kept_decls(alloc: Global, graph: &Graph) -> Result<Option<Graph>, 
     let mut cut = Graph::of_format(alloc, Format::Three);
     for d in 0..graph.decls() {
         if !offer_kept(&mut cut, alloc, graph.decl(d))? {
+            return Ok(None);
+        }
+    }
+    Ok(Some(cut))
+}
+
+/// Puts unions behind the declarations of a graph. `None` exactly where one of them does not fit there.
+pub(crate) fn with_unions(
+    alloc: Global,
+    mut cut: Graph,
+    unions: &[Space],
+) -> Result<Option<Graph>, NoMemory>
+    requires { cut ≡ of_decls cut.decls }
+    ensures some { IfOk result (λ o. IfSome o (λ g. g ≡ of_decls (cut.decls ++ union_decls 0 unions.now))) }
+    ensures none { IfOk result (λ o. o ≡ None → DeclsFit Three [] (cut.decls ++ union_decls 0 unions.now) → ⊥) }
+{
+    for k in 0..unions.len() {
+        let decl = union_decl(alloc, k, &unions[k])?;
+        if !offer_decl(&mut cut, decl)? {
             return Ok(None);
         }
     }
@@ -94,11 +115,22 @@ fn copy_of_kept(alloc: Global, decl: &Decl) -> Result<Option<Decl>, NoMemory>
     }
 }
 
+/// The declaration of a union.
+fn union_decl(alloc: Global, k: usize, space: &Space) -> Result<Decl, NoMemory>
+    ensures { IfOk result (λ d. d ≡ Decl.Space (union_name k) space.now) }
+{
+    let copy = copy_of(alloc, space)?;
+    Ok(Decl::Space {
+        name: union_name(k),
+        space: copy,
+    })
+}
+
 /// The instance of a piece.
 fn piece_decl(alloc: Global, k: u32, piece: Piece) -> Result<Decl, NoMemory>
     ensures { IfOk result (λ d. d ≡ piece_decl k piece) }
 {
-    let name = piece_name(k);
+    let name = piece_name(k as usize);
     let mut fields = NameList::new(alloc);
     fields.push(name)?;
     Ok(Decl::Inst {
@@ -109,7 +141,7 @@ fn piece_decl(alloc: Global, k: u32, piece: Piece) -> Result<Decl, NoMemory>
 }
 
 /// The name of a piece: `Piece_` and four letters.
-fn piece_name(k: u32) -> Name
+fn piece_name(k: usize) -> Name
     ensures { result ≡ piece_name k }
 {
     let mut bytes = *b"Piece_aaaa";
@@ -123,7 +155,22 @@ fn piece_name(k: u32) -> Name
     }
 }
 
-fn letter(n: u32) -> u8
+/// The name of a union: `Union_` and four letters.
+fn union_name(k: usize) -> Name
+    ensures { result ≡ union_name k }
+{
+    let mut bytes = *b"Union_aaaa";
+    bytes[6] = letter(k / 4096);
+    bytes[7] = letter(k / 256);
+    bytes[8] = letter(k / 16);
+    bytes[9] = letter(k);
+    match Name::in_format(Format::Three, &bytes) {
+        Some(name) => name,
+        None => unreachable!(),
+    }
+}
+
+fn letter(n: usize) -> u8
     ensures { result ≡ letter n }
 {
     b'a' + (n % 16) as u8

@@ -5,10 +5,10 @@ mod accepted;
 mod built;
 mod cut;
 mod decls;
-mod found;
 pub mod limits;
 mod lines;
 mod numbered;
+mod over;
 mod within;
 
 pub use accepted::checked_pieces;

@@ -1,18 +1,19 @@
 //! The lines of a graph of pieces.
 
-ghost use Rattle.std.specs.Prelude.{◌≡◌, ◌==◌, ◌<◌, ◌++◌, length, filter, position, find, slice_get, Some, None, IfOk, IfSome};
+ghost use Rattle.std.specs.Prelude.{◌≡◌, ◌==◌, ◌<◌, Contains, length, position, find, slice_get, Some, None, IfOk, IfSome};
 ghost use Rattle.index_spaces.specs.Space.{point_at, IsSpace};
 ghost use Rattle.graph_terms.specs.declared.verb.Access.{Access};
 ghost use Rattle.graph_terms.specs.Graph.{named_spaces, space_at};
 ghost use Rattle.graph_terms.specs.Access.{accesses};
 ghost use Rattle.graph_terms.specs.Fits.{IsGraph};
 ghost use Rattle.column_pieces.specs.Cut.{kernel_on, verb_on, line_on};
-ghost use Rattle.column_pieces.specs.Pieces.{has_cell, named_at, is_kept, piece_decls, graph_of_pieces, ArePieces};
+ghost use Rattle.column_pieces.specs.Pieces.{has_cell, named_at, decls_of_pieces, graph_of_pieces, ArePieces};
+ghost use Rattle.column_parts.specs.Parts.{AreApart};
 ghost use Rattle.piece_graphs.specs.Items.{of_decls};
+ghost use Rattle.piece_graphs.specs.Over.{own_spaces};
 ghost use Rattle.column_pieces.specs.declared.pieces.Piece.{Piece};
 ghost use Rattle.piece_graphs.specs.Naming.{place_of, name_of};
 ghost use Rattle.piece_graphs.specs.Numbered.{AreColumns};
-ghost use Rattle.piece_graphs.specs.Search.{IsFound};
 
 use crate::numbered::ColumnPieces;
 use crate::within::{first_point, has_cell};
@@ -23,6 +24,7 @@ use graph_model::graph::Graph;
 use graph_terms::limits::MOST_ACCESSES;
 use graph_terms::verb::{Access, Kernel, Line, Verb};
 use index_spaces::NoMemory;
+use index_spaces::space::Space;
 use std::alloc::Global;
 
 /// Puts the lines of a graph behind the declarations of another, with pieces in place of columns.
@@ -33,11 +35,11 @@ pub(crate) fn with_lines(
     graph: &Graph,
     columns: &ColumnPieces,
 ) -> Result<Option<Graph>, NoMemory>
-    requires pieces { ArePieces graph.now columns.now.pieces.items }
+    requires pieces { ArePieces graph.now columns.now.unions.items columns.now.pieces.items }
     requires columns { AreColumns graph.now columns.now }
-    requires declared { cut ≡ of_decls (filter is_kept graph.now.decls ++ piece_decls 0 columns.now.pieces.items) }
-    ensures some { IfOk result (λ o. IfSome o (λ g. g ≡ graph_of_pieces graph.now columns.now.pieces.items)) }
-    ensures none { IfOk result (λ o. o ≡ None → IsGraph (graph_of_pieces graph.now columns.now.pieces.items) → ⊥) }
+    requires declared { cut ≡ of_decls (decls_of_pieces graph.now columns.now.unions.items columns.now.pieces.items) }
+    ensures some { IfOk result (λ o. IfSome o (λ g. g ≡ graph_of_pieces graph.now columns.now.unions.items columns.now.pieces.items)) }
+    ensures none { IfOk result (λ o. o ≡ None → IsGraph (graph_of_pieces graph.now columns.now.unions.items columns.now.pieces.items) → ⊥) }
 {
     for i in 0..graph.lines() {
         let line = line_of_pieces(alloc, graph, columns, i, graph.line(i))?;
@@ -59,9 +61,9 @@ fn line_of_pieces(
 ) -> Result<Line, NoMemory>
     requires line { slice_get graph.now.lines i ≡ Some line.now }
     requires below { i < length graph.now.lines }
-    requires pieces { ArePieces graph.now columns.now.pieces.items }
+    requires pieces { ArePieces graph.now columns.now.unions.items columns.now.pieces.items }
     requires columns { AreColumns graph.now columns.now }
-    ensures { IfOk result (λ l. l ≡ line_on (named_at graph.now columns.now.pieces.items i) line.now) }
+    ensures { IfOk result (λ l. l ≡ line_on (named_at graph.now columns.now.unions.items columns.now.pieces.items i) line.now) }
 {
     let _ = graph.lines();
     let Line { name, verb, on } = copy_of_line(alloc, line)?;
@@ -76,7 +78,7 @@ fn line_of_pieces(
 fn verb_on(graph: &Graph, columns: &ColumnPieces, i: u32, verb: Verb) -> Verb
     requires line { i < length graph.now.lines }
     requires columns { AreColumns graph.now columns.now }
-    ensures { result ≡ verb_on (name_of graph.now columns.now.pieces.items i) verb }
+    ensures { result ≡ verb_on (name_of graph.now columns.now.unions.items columns.now.pieces.items i) verb }
 {
     match verb {
         Verb::Fill {
@@ -119,7 +121,7 @@ fn verb_on(graph: &Graph, columns: &ColumnPieces, i: u32, verb: Verb) -> Verb
 fn kernel_on(graph: &Graph, columns: &ColumnPieces, i: u32, kernel: Kernel) -> Kernel
     requires line { i < length graph.now.lines }
     requires columns { AreColumns graph.now columns.now }
-    ensures { result ≡ kernel_on (name_of graph.now columns.now.pieces.items i) kernel }
+    ensures { result ≡ kernel_on (name_of graph.now columns.now.unions.items columns.now.pieces.items i) kernel }
 {
     match kernel {
         Kernel::Iota { x, s, value } => Kernel::Iota {
@@ -177,7 +179,7 @@ fn kernel_on(graph: &Graph, columns: &ColumnPieces, i: u32, kernel: Kernel) -> K
 fn name_of(graph: &Graph, columns: &ColumnPieces, i: u32, column: u32) -> u32
     requires line { i < length graph.now.lines }
     requires columns { AreColumns graph.now columns.now }
-    ensures { result ≡ name_of graph.now columns.now.pieces.items i column }
+    ensures { result ≡ name_of graph.now columns.now.unions.items columns.now.pieces.items i column }
 {
     accesses_fit();
     let _ = graph.lines();
@@ -209,28 +211,35 @@ fn place_of(graph: &Graph, columns: &ColumnPieces, column: u32, space: u32) -> u
     requires space { space < length (named_spaces graph.now) }
     requires is_space { IsSpace (space_at graph.now space) }
     requires columns { AreColumns graph.now columns.now }
-    ensures { result ≡ place_of graph.now columns.now.pieces.items column (point_at (space_at graph.now space) 0) }
+    ensures { result ≡ place_of graph.now columns.now.unions.items columns.now.pieces.items column (point_at (space_at graph.now space) 0) }
 {
     let own = &columns.lists[column as usize];
     let start = columns.starts[column as usize];
-    match place_in(graph, own, column, space) {
+    match place_in(graph, &columns.unions, own, column, space) {
         Some(k) => start + k as u32,
         None => column,
     }
 }
 
 /// The place of that piece among those of the column.
-fn place_in(graph: &Graph, own: &[Piece], column: u32, space: u32) -> Option<usize>
+fn place_in(
+    graph: &Graph,
+    unions: &[Space],
+    own: &[Piece],
+    column: u32,
+    space: u32,
+) -> Option<usize>
     requires space { space < length (named_spaces graph.now) }
     requires is_space { IsSpace (space_at graph.now space) }
-    requires own { IsFound graph.now column own.now }
-    ensures found { result ≡ position (has_cell graph.now column (point_at (space_at graph.now space) 0)) own.now }
+    requires apart { AreApart (own_spaces graph.now unions.now own.now) }
+    requires own { (x : Piece) → Contains own.now x → x.column ≡ column }
+    ensures found { result ≡ position (has_cell graph.now unions.now column (point_at (space_at graph.now space) 0)) own.now }
     ensures below { IfSome result (λ k. k < length own.now) }
 {
     // Most accesses are over the very space of a piece, which is told without a look at its points.
     match place_of_space(own, space) {
         Some(k) => Some(k),
-        None => position(graph, own, column, first_point(graph, space)),
+        None => position(graph, unions, own, column, first_point(graph, space)),
     }
 }
 
@@ -242,11 +251,17 @@ fn place_of_space(own: &[Piece], space: u32) -> Option<usize>
 }
 
 /// The first of these pieces that has the cell of a column at a point.
-fn position(graph: &Graph, pieces: &[Piece], column: u32, point: u32) -> Option<usize>
-    ensures found { result ≡ position (has_cell graph.now column point) pieces.now }
+fn position(
+    graph: &Graph,
+    unions: &[Space],
+    pieces: &[Piece],
+    column: u32,
+    point: u32,
+) -> Option<usize>
+    ensures found { result ≡ position (has_cell graph.now unions.now column point) pieces.now }
     ensures below { IfSome result (λ k. k < length pieces.now) }
 {
     pieces
         .iter()
-        .position(|piece| has_cell(graph, column, point, *piece))
+        .position(|piece| has_cell(graph, unions, column, point, *piece))
 }

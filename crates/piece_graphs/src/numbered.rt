@@ -5,9 +5,11 @@ ghost use Rattle.piece_graphs.specs.declared.limits.TheConstants.{MAX_PIECES};
 ghost use Rattle.piece_graphs.specs.Numbered.{all_pieces, AreStarts, AreNumbered};
 
 use crate::limits::MAX_PIECES;
+use crate::over::OwnPieces;
 use column_pieces::pieces::Piece;
 use index_spaces::NoMemory;
 use index_spaces::room::{push, with_room};
+use index_spaces::space::Space;
 use std::alloc::Global;
 
 /// The pieces of a graph, and their numbers.
@@ -15,41 +17,37 @@ use std::alloc::Global;
 pub(crate) struct ColumnPieces {
     /// The pieces of each column.
     pub lists: Vec<Vec<Piece>>,
-    /// Those of all columns, one column after another.
+    /// The unions that some of them are over.
+    pub unions: Vec<Space>,
+    /// The pieces of all columns, one column after another.
     pub pieces: Vec<Piece>,
     /// The number of the first piece of each column.
     pub starts: Vec<u32>,
 }
 
 /// Numbers the pieces of all columns. `None` where there are more than a graph is cut into.
-pub(crate) fn number(
-    alloc: Global,
-    lists: Vec<Vec<Piece>>,
-) -> Result<Option<ColumnPieces>, NoMemory>
-    ensures lists { IfOk result (λ o. IfSome o (λ x. x.lists ≡ lists)) }
+pub(crate) fn number(alloc: Global, own: OwnPieces) -> Result<Option<ColumnPieces>, NoMemory>
+    ensures own { IfOk result (λ o. IfSome o (λ x. (x.lists ≡ own.lists) × (x.unions ≡ own.unions))) }
     ensures numbered { IfOk result (λ o. IfSome o AreNumbered) }
-    ensures none { IfOk result (λ o. o ≡ None → MAX_PIECES < length (all_pieces lists.items)) }
+    ensures none { IfOk result (λ o. o ≡ None → MAX_PIECES < length (all_pieces own.lists.items)) }
 {
-    match put_together(alloc, &lists)? {
-        Some(pieces) => Ok(Some(with_starts(alloc, lists, pieces)?)),
+    match put_together(alloc, &own.lists)? {
+        Some(pieces) => Ok(Some(with_starts(alloc, own, pieces)?)),
         None => Ok(None),
     }
 }
 
 /// The same, over the pieces of all columns.
-fn with_starts(
-    alloc: Global,
-    lists: Vec<Vec<Piece>>,
-    pieces: Vec<Piece>,
-) -> Result<ColumnPieces, NoMemory>
-    requires pieces { pieces.items ≡ all_pieces lists.items }
+fn with_starts(alloc: Global, own: OwnPieces, pieces: Vec<Piece>) -> Result<ColumnPieces, NoMemory>
+    requires pieces { pieces.items ≡ all_pieces own.lists.items }
     requires few { length pieces.items ≤ MAX_PIECES }
-    ensures lists { IfOk result (λ x. x.lists ≡ lists) }
+    ensures own { IfOk result (λ x. (x.lists ≡ own.lists) × (x.unions ≡ own.unions)) }
     ensures numbered { IfOk result AreNumbered }
 {
-    let starts = starts_of(alloc, &lists)?;
+    let starts = starts_of(alloc, &own.lists)?;
     Ok(ColumnPieces {
-        lists,
+        lists: own.lists,
+        unions: own.unions,
         pieces,
         starts,
     })

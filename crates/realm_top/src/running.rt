@@ -64,8 +64,8 @@ fn run_in_pieces<R: Threads + Wait + Sync, G: Gate>(
 ) -> Result<Outcome, NoMemory>
     requires workers { request.now.workers ≤ MAX_WORKERS }
     requires need { checked.now.need ≤ MAX_SLOTS }
-    requires pieces { ArePieces checked.now.graph cut.pieces.items }
-    requires graph { cut.graph ≡ graph_of_pieces checked.now.graph cut.pieces.items }
+    requires pieces { ArePieces checked.now.graph cut.pieces.unions.items cut.pieces.pieces.items }
+    requires graph { cut.graph ≡ graph_of_pieces checked.now.graph cut.pieces.unions.items cut.pieces.pieces.items }
     ensures outcome { IfOk result (λ o. o ≡ outcome checked.now.graph o.trace) }
     ensures lawful { IfOk result (λ o. IsLawful checked.now.graph o.trace) }
     ensures lines { IfOk result (λ o. (k i : ℕ) → slice_get o.trace k ≡ Some i → i < length checked.now.graph.lines) }

@@ -7,11 +7,29 @@ use std::alloc::{AllocError, Global};
 use std::test::Fail;
 use test_texts::generated::numbered;
 
-/// Two columns whose spaces cross, and two tiles of a third.
+/// Two columns whose spaces cross, so that each is one piece over a union, and two tiles of a third.
 const CROSSED: &str =
     "realm 3\nspace w 0..5\nspace low 0..3\nspace high 2..5\nspace left 0..2\nspace right 3..5\n\
     inst a w x,y,z\nf = fill a.x low 1\ng = fill a.x high 2 on f\nh = fill a.y high 1\ni = fill a.y low 2 on h\n\
     j = fill a.z right 1\nk = fill a.z left 1\nend\n";
+/// Halos join two tiles of eight, and the others lie apart: a piece over a union, and six over tiles.
+const HALOS: &str =
+    "realm 3\nspace w 0..23\nspace t0 0..2\nspace t1 3..5\nspace t2 6..8\nspace t3 9..11\nspace t4 12..14\n\
+    space t5 15..17\nspace t6 18..20\nspace t7 21..23\nspace low 0..3\nspace high 2..5\ninst a w x\n\
+    f = fill a.x t2 1\ng = fill a.x low 1\nh = fill a.x high 2 on g\ni = fill a.x t0 2 on h\nj = fill a.x t1 2 on h\n\
+    k = fill a.x t3 1\nl = fill a.x t4 1\nm = fill a.x t5 1\nn = fill a.x t6 1\no = fill a.x t7 1\nend\n";
+/// The ends of a column join its two tiles, and a tile between them lies apart: the union is two intervals.
+const AROUND: &str =
+    "realm 3\nspace w 0..8\nspace left 0..2\nspace mid 4..4\nspace right 6..8\nspace ends 0..0,8..8\ninst a w x\n\
+    f = fill a.x left 1\ng = fill a.x mid 1\nh = fill a.x right 1\ni = fill a.x ends 2 on h\nend\n";
+/// A later space that has all points of a union, and of a tile beside it, takes the place of both.
+const TAKEN: &str =
+    "realm 3\nspace w 0..8\nspace low 0..3\nspace high 2..5\nspace most 0..6\nspace last 8..8\nspace six 6..6\ninst a w x\n\
+    f = fill a.x low 1\ng = fill a.x high 1 on f\nh = fill a.x six 1\ni = fill a.x most 2 on g\nj = fill a.x last 1\nend\n";
+/// Spaces that cross beside a tile, in a graph that has the name of the first union.
+const NAMED_UNION: &str =
+    "realm 3\nspace w 0..8\nspace Union_aaaa 0..3\nspace high 2..5\nspace last 6..8\ninst a w x\n\
+    f = fill a.x Union_aaaa 1\ng = fill a.x high 1 on f\nh = fill a.x last 1\nend\n";
 /// A tile within another one, and one beside it.
 const WITHIN: &str =
     "realm 3\nspace w 0..5\nspace one 1..1\nspace left 0..2\nspace right 3..5\ninst a w x\n\
@@ -31,7 +49,7 @@ const NAMED_THIRD: &str =
 fn is_cut(alloc: Global, text: &str, wanted: &[(u32, u32)]) -> Result<bool, Fail> {
     let graph = read_graph(alloc, text.as_bytes())?;
     match cut_columns(alloc, &graph)? {
-        Some(cut) => Ok(are_same(&cut.pieces, wanted)),
+        Some(cut) => Ok(are_same(&cut.pieces.pieces, wanted)),
         None => Ok(wanted.is_empty()),
     }
 }
@@ -69,7 +87,7 @@ fn many_tiles(alloc: Global, more: &str) -> Result<String, AllocError> {
 fn count(alloc: Global, text: &str) -> Result<usize, Fail> {
     let graph = read_graph(alloc, text.as_bytes())?;
     match cut_columns(alloc, &graph)? {
-        Some(cut) => Ok(cut.pieces.len()),
+        Some(cut) => Ok(cut.pieces.pieces.len()),
         None => Ok(0),
     }
 }
@@ -77,7 +95,17 @@ fn count(alloc: Global, text: &str) -> Result<usize, Fail> {
 #[test]
 fn pieces_of_small_graphs(rt: HostRuntime) -> Result<(), Fail> {
     let alloc = rt.alloc();
-    assert!(rt; is_cut(alloc, CROSSED, &[(0, 0), (1, 0), (2, 4), (2, 3)])?);
+    assert!(rt; is_cut(alloc, CROSSED, &[(0, 5), (1, 6), (2, 4), (2, 3)])?);
+    assert!(rt;
+        is_cut(
+            alloc,
+            HALOS,
+            &[(0, 3), (0, 11), (0, 4), (0, 5), (0, 6), (0, 7), (0, 8)]
+        )?
+    );
+    assert!(rt; is_cut(alloc, AROUND, &[(0, 2), (0, 5)])?);
+    assert!(rt; is_cut(alloc, TAKEN, &[(0, 3), (0, 4)])?);
+    assert!(rt; is_cut(alloc, NAMED_UNION, &[])?);
     assert!(rt; is_cut(alloc, WITHIN, &[(0, 2), (0, 3)])?);
     assert!(rt; is_cut(alloc, ONE_EACH, &[])?);
     assert!(rt; is_cut(alloc, NAMED, &[])?);

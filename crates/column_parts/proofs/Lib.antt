@@ -1,0 +1,4 @@
+pub mod Spaces
+pub mod Search
+pub mod Chosen
+pub mod Public

@@ -1,0 +1,11 @@
+use Rattle.std.proofs.Common.{◌≡◌, ℕ, [], length}
+use Rattle.std.specs.Prelude.{Some, Vec, slice_get}
+use Rattle.std.specs.Global.{Global}
+use Rattle.column_parts.specs.declared.parts.Part.{Part}
+use Rattle.column_parts.proofs.found.empty_lists.Given as goal
+
+abbrev pub invariant-loop-column : goal.invariant-loop-column
+invariant-loop-column l = record {
+  count : length l.lists.items ≡ l._column;
+  none : (c : ℕ) (x : Vec Part Global) → slice_get l.lists.items c ≡ Some x → x.items ≡ [];
+}

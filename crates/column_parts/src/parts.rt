@@ -1,0 +1,12 @@
+//! Parts of columns.
+
+use index_spaces::space::Space;
+
+/// The points of some accesses of a column that hang together.
+#[derive(Drop)]
+pub enum Part {
+    /// Those of a declared space, by its number.
+    Declared(u32),
+    /// Those of several spaces, none of which has all.
+    Union(Space),
+}
