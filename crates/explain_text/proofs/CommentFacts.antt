@@ -8,7 +8,7 @@ use Rattle.explain_text.specs.Comments.{counts_from, all_counted, count_at, AreC
 use Rattle.explain_text.specs.declared.comment_counts.Counts.{Counts}
 
 -- of a place behind the first line that stays
-next_place : (k : ℕ) (ls : List (List ℕ)) → cond (suc k == 0) 0 (comments_above (suc k - 1) ls) ≡ comments_above k ls
+pub next_place : (k : ℕ) (ls : List (List ℕ)) → cond (suc k == 0) 0 (comments_above (suc k - 1) ls) ≡ comments_above k ls
 next_place k ls =
     let before : suc k - 1 ≡ k = omega arith in
     cond-false (suc k == 0) 0 (comments_above (suc k - 1) ls) (ne_eqb (suc k) 0 (λ e. let z : suc k ≡ 0 = e in absurd (omega arith))) ∙ ap (λ x. comments_above x ls) before

@@ -7,4 +7,6 @@ pub mod AcceptedFacts
 pub mod NamedFacts
 mod LineLaws
 mod CommentFacts
+mod FrontFacts
+mod NameSearch
 pub mod Public

@@ -11,9 +11,9 @@ use Rattle.explain_text.specs.Shown.{shown, place_of, shown_behind, shown_at, sh
 use Rattle.explain_text.proofs.WordPlaces.{joined_more}
 
 -- a word stands at a place of bytes
-record StandsAt (w : List ℕ) (p : ℕ) (l : List ℕ) : Type 0 where
-  within : p + length w ≤ length l
-  is : take (length w) (drop p l) ≡ w
+pub record StandsAt (w : List ℕ) (p : ℕ) (l : List ℕ) : Type 0 where
+  pub within : p + length w ≤ length l
+  pub is : take (length w) (drop p l) ≡ w
 
 take_front : (x y : List ℕ) → take (length x) (x ++ y) ≡ x
 take_front [] y = refl
@@ -26,7 +26,7 @@ drop_behind (b ∷ x) c p l = ap (λ n. drop n (x ++ c ∷ l)) (let e : suc (len
 stands_front : (w y : List ℕ) → StandsAt w 0 (w ++ y)
 stands_front w y = record { within = (let e = length-append w y in omega (arith, e)); is = take_front w y }
 
-stands_behind : (x : List ℕ) (c : ℕ) (w : List ℕ) (p : ℕ) (l : List ℕ) → StandsAt w p l → StandsAt w (suc (length x + p)) (x ++ c ∷ l)
+pub stands_behind : (x : List ℕ) (c : ℕ) (w : List ℕ) (p : ℕ) (l : List ℕ) → StandsAt w p l → StandsAt w (suc (length x + p)) (x ++ c ∷ l)
 stands_behind x c w p l s = record {
   within = (let e = length-append x (c ∷ l) in let h : p + length w ≤ length l = s.within in omega (arith, e, h));
   is = ap (take (length w)) (drop_behind x c p l) ∙ s.is;
@@ -36,7 +36,7 @@ stands_behind x c w p l s = record {
 abbrev Stands : List ℕ → ℕ → List (List ℕ) → Type 0
 Stands w n ws = (q : ℕ) × (place_of w n ws ≡ n + q) × StandsAt w q (join_with_byte 32 ws)
 
-stands_first : (w : List ℕ) (n : ℕ) (ws : List (List ℕ)) → StandsAt w 0 (join_with_byte 32 (w ∷ ws))
+pub stands_first : (w : List ℕ) (n : ℕ) (ws : List (List ℕ)) → StandsAt w 0 (join_with_byte 32 (w ∷ ws))
 stands_first w n [] = record { within = omega arith; is = take_all_of w }
   where
     take_all_of : (x : List ℕ) → take (length x) x ≡ x

@@ -1,5 +1,5 @@
 -- That what is told as a line of the text is that line.
-use Rattle.std.specs.Prelude.{◌≡◌, ◌-◌, ℕ, true, List, [], Some, slice_get, ◌++◌, Result, OnOk}
+use Rattle.std.specs.Prelude.{◌≡◌, ◌+◌, ◌-◌, ◌<◌, ◌≤◌, ℕ, true, List, [], length, Option, Some, IfSome, slice_get, ◌++◌, Result, OnOk}
 use Rattle.std.specs.List.{slice_index_or, join_with_byte}
 use Rattle.graph_terms.specs.declared.verb.Line.{Line}
 use Rattle.graph_terms.specs.declared.why.Why.{Why}
@@ -11,6 +11,8 @@ use Rattle.graph_reader.specs.FirstFault.{IsLineFault, IsRestFault, FirstFault}
 use Rattle.graph_reader.specs.Laws.{refused_line}
 use Rattle.explain_text.specs.TextLines.{TextLines}
 use Rattle.explain_text.specs.Lines.{line_number, line_of}
+use Rattle.explain_text.specs.Named.{first_place}
+use Rattle.explain_text.specs.Unread.{ended_text}
 
 -- the lines of these bytes, told whole
 abbrev pub whole : List ℕ → TextLines
@@ -47,3 +49,11 @@ PutPartByPart = (old mid new a b : List ℕ) → mid ≡ old ++ a → new ≡ mi
 -- and so it did where memory sufficed for the next
 abbrev pub PutsPartByPart : Type 0 → Type 0 → Type 0
 PutsPartByPart X E = (r : Result X E) (old mid new a b : List ℕ) → mid ≡ old ++ a → OnOk r (new ≡ mid ++ b) → OnOk r (new ≡ old ++ (a ++ b))
+
+-- a line that has ended an event, and is one of the lines of a text and not the last of them, is told so where more lines follow
+abbrev pub EndedStays : Type 0
+EndedStays = (g : GraphValue) (ls : TextLines) (more : List (List ℕ)) (i : ℕ) → line_number g ls i < length ls.lines → ended_text g (record { bytes = ls.bytes; lines = ls.lines ++ more; all = ls.all }) (Some i) ≡ ended_text g ls (Some i)
+
+-- the place at which a name stands among some is one of theirs
+abbrev pub PlaceInside : Type 0
+PlaceInside = (w : List ℕ) (n m : ℕ) (names : List (List ℕ)) (o : Option ℕ) → o ≡ first_place w n names → n + length names ≤ m → IfSome o (λ k. k < m)

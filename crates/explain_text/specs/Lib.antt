@@ -2,6 +2,7 @@ pub mod Visible
 pub mod TextLines
 pub mod Comments
 pub mod Shown
+pub mod Front
 pub mod Lines
 pub mod Accepted
 pub mod Named

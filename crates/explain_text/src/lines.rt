@@ -1,6 +1,6 @@
 //! Lines of a graph's text with their numbers, and why they wait.
 
-ghost use Rattle.std.specs.Prelude.{◌≡◌, ◌<◌, ◌≤◌, ◌++◌, length, Contains, codes, OnOk};
+ghost use Rattle.std.specs.Prelude.{◌≡◌, ◌<◌, ◌≤◌, ◌++◌, nat_lt, length, Contains, codes, OnOk};
 ghost use Rattle.graph_terms.specs.Edges.{edges};
 ghost use Rattle.graph_terms.specs.Spelling.{line_name};
 ghost use Rattle.explain_graph.specs.Explanation.{AreEdges};
@@ -30,6 +30,13 @@ fn line_number(graph: &Graph, lines: &Lines, i: u32) -> u64
     ensures { result ≡ line_number graph.now lines.now i }
 {
     lines.whole_number(u64::from(i) + u64::from(graph.decls()) + 2)
+}
+
+/// Whether an operation's line is one of these lines, and not the last of them.
+pub fn is_above_last(graph: &Graph, lines: &Lines, i: u32) -> bool
+    ensures { result ≡ nat_lt (line_number graph.now lines.now i) (length lines.now.lines) }
+{
+    line_number(graph, lines, i) < lines.pieces().len() as u64
 }
 
 /// A line of the text that was read.

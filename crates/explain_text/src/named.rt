@@ -6,9 +6,10 @@ ghost use Rattle.basics.specs.Words.{contents};
 ghost use Rattle.graph_words.specs.Words.{pieces};
 ghost use Rattle.explain_text.specs.Named.{declares, given_by, given_name, given_names, first_place};
 
-use graph_words::cuts::cut;
+use crate::split::{cut_line, cut_word};
 use index_spaces::NoMemory;
 use index_spaces::room::push;
+use memchr::memmem;
 use std::alloc::Global;
 
 /// The names that lines give, one for each line, in one pass over them.
@@ -41,14 +42,45 @@ pub(crate) fn first_place(word: &[u8], number: usize, names: &[&[u8]]) -> Option
     None
 }
 
+/// The place of the first line of bytes that gives a name, among their lines. These are looked at one by one
+/// only where the bytes have the name at all.
+pub fn place_in(word: &[u8], bytes: &[u8]) -> Option<usize>
+    ensures { result ≡ first_place word.now 0 (given_names (pieces 10 bytes.now)) }
+{
+    match memmem::find(bytes, word) {
+        Some(_) => place_among(word, bytes),
+        None => None,
+    }
+}
+
+/// The same, line by line.
+fn place_among(word: &[u8], bytes: &[u8]) -> Option<usize>
+    ensures { result ≡ first_place word.now 0 (given_names (pieces 10 bytes.now)) }
+{
+    let mut at = 0;
+    let mut rest = bytes;
+    while let Some((line, after)) = cut_line(rest) {
+        if given_name(line) == word {
+            return Some(at);
+        }
+        at += 1;
+        rest = after;
+    }
+    if given_name(rest) == word {
+        Some(at)
+    } else {
+        None
+    }
+}
+
 /// The name that a line gives, none where it gives none.
 pub(crate) fn given_name(line: &[u8]) -> &[u8]
     ensures { result.now ≡ given_name (pieces 32 line.now) }
 {
-    let Some((first, rest)) = cut(line, b' ') else {
+    let Some((first, rest)) = cut_word(line) else {
         return b"";
     };
-    match cut(rest, b' ') {
+    match cut_word(rest) {
         Some((second, _)) => given_by(first, second),
         None => given_by(first, rest),
     }

@@ -40,6 +40,18 @@ impl<'a> Lines<'a> {
         ensures { IfOk result (λ v. v ≡ record { bytes = bytes.now; lines = pieces 10 bytes.now; all = all }) }
     {
         let lines = split_lines(alloc, bytes)?;
+        Lines::of_front(alloc, bytes, lines, all)
+    }
+
+    /// Some lines of these bytes, as if these were all.
+    pub fn of_front(
+        alloc: Global,
+        bytes: &'a [u8],
+        lines: Vec<&'a [u8]>,
+        all: bool,
+    ) -> Result<Lines<'a>, NoMemory>
+        ensures { IfOk result (λ v. v ≡ record { bytes = bytes.now; lines = contents lines.entry.items; all = all }) }
+    {
         let counts = counts_behind(alloc, lines.as_slice())?;
         Ok(Lines {
             bytes,

@@ -6,12 +6,17 @@ use indexmap::IndexSet;
 use std::alloc::Global;
 use std::marker::Model;
 
+/// As many ends of names are told apart.
+const ENDS: usize = 256;
+
 /// Names, each once, in the order in which they came first.
 #[derive(Drop)]
 pub(crate) struct NameList<'a> {
     names: IndexSet<&'a [u8]>,
     /// Where the next word is looked for first.
     next: usize,
+    /// Where a name with such an end was put or found last.
+    by_end: [usize; ENDS],
 }
 
 impl<'a> Model for NameList<'a> {
@@ -34,6 +39,7 @@ impl<'a> NameList<'a> {
         NameList {
             names: IndexSet::new(alloc),
             next: 0,
+            by_end: [0; ENDS],
         }
     }
 
@@ -55,8 +61,8 @@ impl<'a> NameList<'a> {
         }
     }
 
-    /// Puts a name at the end, where it is not there. Words often stand in turn, or one several times in a row, so the
-    /// name behind the one that was found and the last one are looked at before all.
+    /// Puts a name at the end, where it is not there. Words often stand in turn, or one comes again, so the name behind
+    /// the one that was found and the last one with this end are looked at before all.
     pub(crate) fn add(&mut self, name: &'a [u8]) -> Result<(), NoMemory>
         ensures { OnOk result (self.new ≡ with_name self.old name.now) }
     {
@@ -64,7 +70,7 @@ impl<'a> NameList<'a> {
             self.go_on();
             return Ok(());
         }
-        if self.is_at(self.names.len().saturating_sub(1), name) {
+        if self.is_at(self.by_end[end_of(name) as usize], name) {
             return Ok(());
         }
         self.put(name)
@@ -94,9 +100,21 @@ impl<'a> NameList<'a> {
     fn put(&mut self, name: &'a [u8]) -> Result<(), NoMemory>
         ensures { OnOk result (self.new ≡ with_name self.old name.now) }
     {
-        match self.names.insert(name) {
-            Ok(_) => Ok(()),
+        match self.names.insert_full(name) {
+            Ok((place, _)) => {
+                self.by_end[end_of(name) as usize] = place;
+                Ok(())
+            }
             Err(_) => Err(NoMemory),
         }
     }
+}
+
+/// A number for the last three bytes of a name; names that are numbered have others where these digits are.
+fn end_of(name: &[u8]) -> u8 {
+    let mut end: u8 = 0;
+    for byte in name.iter().rev().take(3) {
+        end = end.wrapping_mul(11).wrapping_add(*byte);
+    }
+    end
 }

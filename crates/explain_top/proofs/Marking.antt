@@ -37,8 +37,3 @@ pub marked : {X E : Type 0} (r : Result X E) (ls : TextLines) (number : ℕ) (re
 marked r ls number reason g old new mark limit ended named more space ws same m l e n s t = marked_by r ls number reason g old new mark limit ended named more space
     (subst (Found ls number reason g mark limit ended named more space) same (record { is_mark = m; is_limit = l; is_ended = e; are_named = n; is_space = s }))
     (subst (λ w. OnOk r (new ≡ old ++ marks ls number reason g mark limit ended named more space w)) same t)
-
--- by the pieces that the lines are
-pub as_lines : {X E : Type 0} (r : Result X E) (number : ℕ) (reason : Why) (g : GraphValue) (old new : List ℕ) (ps : List (List ℕ)) (ls : TextLines) → ps ≡ ls.lines → OnOk r (IsMarkedText (record { bytes = ls.bytes; lines = ps; all = ls.all }) number reason g old new) →
-    OnOk r (IsMarkedText ls number reason g old new)
-as_lines r number reason g old new ps ls same = subst (λ (q : List (List ℕ)). OnOk r (IsMarkedText (record { bytes = ls.bytes; lines = q; all = ls.all }) number reason g old new)) same

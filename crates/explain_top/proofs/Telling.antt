@@ -1,6 +1,6 @@
 -- An answer as it is told.
 use Rattle.std.proofs.Common.{◌≡◌, ℕ, ◌+◌, ◌-◌, ◌<◌, ◌≤◌, Bool, true, false, cond, List, ◌++◌, length, take, drop, Bor, refl, sym, ◌∙◌, ap, subst, inl, inr, arith}
-use Rattle.std.specs.Prelude.{◌&&◌, nat_lt, Contains, Option, Some, None, Result, Ok, Err, IfOk, OnOk, codes}
+use Rattle.std.specs.Prelude.{◌&&◌, nat_lt, Contains, Option, Some, None, IfSome, Result, Ok, Err, IfOk, OnOk, codes}
 use Rattle.std.specs.Option.{option_map_or}
 use Rattle.std.specs.List.{list_all}
 use Rattle.std.proofs.lemmas.Bool.{true≢false, lt-ltb}
@@ -40,6 +40,13 @@ given_size names lines given =
 
 pub inside_all : (names lines : List (Bor (List ℕ))) (xs : List NamedWord) → contents names ≡ given_names (contents lines) → ((x : NamedWord) → Contains xs x → IsInside (length names) x) → (x : NamedWord) → Contains xs x → IsInside (length lines) x
 inside_all names lines xs given inside x c = subst (λ n. IsInside n x) (given_size names lines given) (inside x c)
+
+pub inside_contents : (lines : List (Bor (List ℕ))) (x : NamedWord) → IsInside (length lines) x → IsInside (length (contents lines)) x
+inside_contents lines x inside = (let all : length (contents lines) ≡ length lines = simp length-map in subst (λ n. IsInside n x) (sym all) inside)
+
+pub some_inside : (lines : List (Bor (List ℕ))) (o : Option NamedWord) → IfSome o (IsInside (length lines)) → IfSome o (IsInside (length (contents lines)))
+some_inside lines None inside = tt
+some_inside lines (Some x) inside = inside_contents lines x inside
 
 pub as_answer : {E : Type 0} (r : Result Answer E) (ends all : Bool) (bytes : List ℕ) (w : Answer) (most : ℕ) → most ≡ most_bytes all → IsWholeAnswer ends all bytes w.verdict w.text → IfOk r (λ a. a.verdict ≡ w.verdict)
     → IfOk r (λ a. a.text ≡ told most (visible w.text)) → IfOk r (λ a. length a.text ≤ most) → IfOk r (λ a. list_all is_plain a.text ≡ true) → IfOk r (λ a. IsAnswerIn ends all bytes a.verdict a.text)

@@ -3,3 +3,4 @@ pub mod Columns
 pub mod Answer
 pub mod Flows
 pub mod Program
+pub mod Missing

@@ -1,15 +1,17 @@
 //! The answer to the bytes of an input.
 
 ghost use Rattle.std.specs.List.{list_all};
-ghost use Rattle.std.specs.Prelude.{◌≡◌, ◌≢◌, ◌++◌, ◌≤◌, nat_lt, Bool, true, length, option_map, Contains, None, IfOk, IfSome, OnOk, MatchOption};
+ghost use Rattle.std.specs.Prelude.{◌≡◌, ◌≢◌, ◌++◌, ◌≤◌, nat_lt, Bool, true, length, IsTrue, option_map, Contains, None, IfOk, IfSome, OnOk, MatchOption};
 ghost use Rattle.basics.specs.Words.{contents};
 ghost use Rattle.refused_words.specs.Ends.{IsEndedBy};
 ghost use Rattle.refused_words.specs.Refused.{IsRefusedWord};
 ghost use Rattle.refused_words.specs.Limits.{quantity_value};
+ghost use Rattle.explain_text.specs.Front.{behind};
 ghost use Rattle.explain_text.specs.Named.{IsInside, names_text, space_text};
 ghost use Rattle.explain_text.specs.declared.naming.NamedWord.{NamedWord};
 ghost use Rattle.explain_text.specs.Visible.{is_plain, visible};
 ghost use Rattle.explain_top.specs.Answer.{IsAnswer, IsAnswerIn, IsWholeAnswer, asked, most_bytes, most_names, told, IsUnfitText, IsUnreadText, IsMarkedText, first_text, advice_text, AreNamed, TellsSpace, limit_for};
+ghost use Rattle.explain_top.specs.Missing.{IsReached, IsTold, with_lines};
 ghost use Rattle.graph_meaning.specs.Rules.{Accepted};
 ghost use Rattle.graph_reader.specs.Reading.{IsUnreadBy};
 ghost use Rattle.graph_words.specs.Text.{GraphText};
@@ -17,13 +19,14 @@ ghost use Rattle.race_check.specs.Refusal.{IsRefusal, NamesLines};
 
 use crate::accepted::put_accepted;
 use crate::columns::put_columns;
+use crate::missing::missing_lines;
 use checked_graph::Checked;
 use explain_graph::explain;
 use explain_text::bounds::{MAX_ANSWER, MAX_NAMES, MAX_WHOLE};
 use explain_text::visible::visible_front;
 use explain_text::{
     Lines, NamedWord, NamedWords, Text, given_names, line_at, named_space, named_words, put_ended,
-    put_limit, put_mark, put_named_words, put_refused, put_space, put_unread,
+    put_limit, put_mark, put_named_words, put_refused, put_space, put_unread, split_front,
 };
 use graph_model::graph::Graph;
 use graph_reader::{Reading, Unread, read_text};
@@ -69,8 +72,7 @@ pub fn explain_bytes(alloc: Global, bytes: &[u8], ends: bool) -> Result<Answer, 
 pub fn explain_in(alloc: Global, bytes: &[u8], ends: bool, all: bool) -> Result<Answer, NoMemory>
     ensures { IfOk result (λ a. IsAnswerIn ends all bytes.now a.verdict a.text) }
 {
-    let lines = Lines::of(alloc, bytes, all)?;
-    let whole = answer_lines(alloc, bytes, &lines, ends, all)?;
+    let whole = answer_bytes(alloc, bytes, ends, all)?;
     as_told(alloc, &whole, most_bytes(all))
 }
 
@@ -112,21 +114,29 @@ fn shorten(text: &mut Text, most: usize) -> Result<(), NoMemory>
     text.put(b"\n..\n")
 }
 
-/// The answer to bytes of these lines.
-fn answer_lines(
-    alloc: Global,
-    bytes: &[u8],
-    lines: &Lines,
-    ends: bool,
-    all: bool,
-) -> Result<Answer, NoMemory>
-    requires { lines.now ≡ asked all bytes.now }
+/// The answer to bytes. Those that are the text of no graph are split no further than is told of.
+fn answer_bytes(alloc: Global, bytes: &[u8], ends: bool, all: bool) -> Result<Answer, NoMemory>
     ensures { IfOk result (λ a. IsWholeAnswer ends all bytes.now a.verdict a.text) }
 {
     match read_text(alloc, bytes)? {
-        Reading::Graph(graph) => answer_graph(alloc, graph, bytes, lines, ends, all),
-        Reading::Refused(unread) => answer_unread(alloc, &unread, bytes, lines, all),
+        Reading::Graph(graph) => answer_text(alloc, graph, bytes, ends, all),
+        Reading::Refused(unread) => answer_unread(alloc, &unread, bytes, all),
     }
+}
+
+/// The answer to bytes that are the text of the graph.
+fn answer_text(
+    alloc: Global,
+    graph: Graph,
+    bytes: &[u8],
+    ends: bool,
+    all: bool,
+) -> Result<Answer, NoMemory>
+    requires { GraphText bytes.now graph }
+    ensures { IfOk result (λ a. IsWholeAnswer ends all bytes.now a.verdict a.text) }
+{
+    let lines = Lines::of(alloc, bytes, all)?;
+    answer_graph(alloc, graph, bytes, &lines, ends, all)
 }
 
 /// The answer to bytes of these lines that are the text of the graph.
@@ -195,21 +205,19 @@ fn answer_unfit(
     })
 }
 
-/// The answer to bytes of these lines that are the text of no graph.
+/// The answer to bytes that are the text of no graph.
 fn answer_unread(
     alloc: Global,
     unread: &Unread,
     bytes: &[u8],
-    lines: &Lines,
     all: bool,
 ) -> Result<Answer, NoMemory>
-    requires refused { IsUnreadBy bytes.now unread.now.number unread.now.why unread.now.above }
-    requires lines { lines.now ≡ asked all bytes.now }
+    requires { IsUnreadBy bytes.now unread.now.number unread.now.why unread.now.above }
     ensures { IfOk result (λ a. (ends : Bool) → IsWholeAnswer ends all bytes.now a.verdict a.text) }
 {
     let _bytes = bytes;
     let _all = all;
-    let text = put_unread_text(alloc, lines, unread)?;
+    let text = unread_text(alloc, bytes, unread, all)?;
     Ok(Answer {
         verdict: Verdict::Unread,
         text,
@@ -232,21 +240,106 @@ fn put_unfit(alloc: Global, unfit: &Unfit, lines: &Lines) -> Result<Text, NoMemo
     Ok(text)
 }
 
-/// The text on bytes that are no graph's.
-pub(crate) fn put_unread_text(
+/// The text on bytes that are no graph's, by the lines up to the refused one where these tell it, else by as many more as
+/// its names ask for, else by all.
+pub(crate) fn unread_text(
+    alloc: Global,
+    bytes: &[u8],
+    unread: &Unread,
+    all: bool,
+) -> Result<Text, NoMemory>
+    ensures { IfOk result (IsUnreadText (asked all bytes.now) unread.now.number unread.now.why unread.now.above) }
+{
+    let few = front_text(alloc, bytes, unread, all, unread.number as usize)?;
+    if few.missing == 0 {
+        return Ok(few.text);
+    }
+    let count = few.missing.saturating_add(unread.number as usize);
+    let more = front_text(alloc, bytes, unread, all, count)?;
+    if more.missing == 0 {
+        return Ok(more.text);
+    }
+    whole_text(alloc, bytes, unread, all)
+}
+
+/// A text that is told by some lines, and how many more lines its names ask for, as far as that is known.
+#[derive(Drop)]
+pub(crate) struct FrontText {
+    pub(crate) text: Text,
+    pub(crate) missing: usize,
+}
+
+/// The text by the first lines.
+fn front_text(
+    alloc: Global,
+    bytes: &[u8],
+    unread: &Unread,
+    all: bool,
+    count: usize,
+) -> Result<FrontText, NoMemory>
+    ensures { IfOk result (λ t. t.missing ≡ 0 → IsUnreadText (asked all bytes.now) unread.now.number unread.now.why unread.now.above t.text) }
+{
+    let front = split_front(alloc, bytes, count)?;
+    let rest = front.rest;
+    if !is_reached(front.lines.as_slice(), rest, unread.number) {
+        return Ok(FrontText {
+            text: Text::new(alloc),
+            missing: usize::MAX,
+        });
+    }
+    let lines = Lines::of_front(alloc, bytes, front.lines, all)?;
+    put_unread_text(alloc, &lines, rest, unread)
+}
+
+/// Whether the line of a number is among some lines, or no others follow.
+fn is_reached(lines: &[&[u8]], rest: Option<&[u8]>, number: u32) -> bool
+    ensures { IsTrue result → IsReached (contents lines.now) (behind rest.entry) number }
+{
+    match rest {
+        None => true,
+        Some(_) => (number.saturating_sub(1) as usize) < lines.len(),
+    }
+}
+
+/// The text by all lines.
+fn whole_text(alloc: Global, bytes: &[u8], unread: &Unread, all: bool) -> Result<Text, NoMemory>
+    ensures { IfOk result (IsUnreadText (asked all bytes.now) unread.now.number unread.now.why unread.now.above) }
+{
+    let lines = Lines::of(alloc, bytes, all)?;
+    let told = put_unread_text(alloc, &lines, None, unread)?;
+    Ok(told.text)
+}
+
+/// The text on bytes of these lines and those of the rest.
+fn put_unread_text(
     alloc: Global,
     lines: &Lines,
+    rest: Option<&[u8]>,
     unread: &Unread,
-) -> Result<Text, NoMemory>
-    ensures { IfOk result (IsUnreadText lines.now unread.now.number unread.now.why unread.now.above) }
+) -> Result<FrontText, NoMemory>
+    requires { IsReached lines.now.lines (behind rest) unread.now.number }
+    ensures { IfOk result (λ t. IsTold rest.entry t.missing → IsUnreadText (with_lines lines.now (behind rest.entry)) unread.now.number unread.now.why unread.now.above t.text) }
 {
     let mut text = Text::new(alloc);
     put_unread(&mut text, lines.pieces(), unread.number, unread.why)?;
     match &unread.above {
-        Some(graph) => put_behind(alloc, &mut text, graph, lines, unread.number, unread.why)?,
-        None => put_first(alloc, &mut text, lines.pieces(), unread.number, unread.why)?,
+        Some(graph) => {
+            let missing = put_behind(
+                alloc,
+                &mut text,
+                graph,
+                lines,
+                rest,
+                unread.number,
+                unread.why,
+            )?;
+            Ok(FrontText { text, missing })
+        }
+        None => {
+            put_first(alloc, &mut text, lines.pieces(), unread.number, unread.why)?;
+            Ok(FrontText { text, missing: 0 })
+        }
     }
-    Ok(text)
 }
 
 /// Puts, of a line above which no graph is, that the whole line is refused, and what its form tells.
@@ -293,18 +386,21 @@ fn is_below(graph: &Graph) -> bool
     graph.lines() > 0
 }
 
-/// Puts, of a line that is refused behind a graph, which word is, and what that word clashes with.
+/// Puts, of a line that is refused behind a graph, which word is, and what that word clashes with. Gives how many more lines
+/// the names ask for.
 fn put_behind(
     alloc: Global,
     text: &mut Text,
     graph: &Graph,
     lines: &Lines,
+    rest: Option<&[u8]>,
     number: u32,
     why: Why,
-) -> Result<(), NoMemory>
-    ensures { OnOk result (IsMarkedText lines.now number why graph.now text.old text.new) }
+) -> Result<usize, NoMemory>
+    requires { IsReached lines.now.lines (behind rest) number }
+    ensures { IfOk result (λ m. IsTold rest.entry m → IsMarkedText (with_lines lines.now (behind rest.entry)) number why graph.now text.old text.new) }
 {
-    put_clashes(alloc, text, graph, lines, lines.pieces(), number, why)
+    put_clashes(alloc, text, graph, lines, lines.pieces(), rest, number, why)
 }
 
 /// The same by the pieces that the lines are.
@@ -314,11 +410,13 @@ fn put_clashes(
     graph: &Graph,
     lines: &Lines,
     pieces: &[&[u8]],
+    rest: Option<&[u8]>,
     number: u32,
     why: Why,
-) -> Result<(), NoMemory>
-    requires { contents pieces.now ≡ lines.now.lines }
-    ensures { OnOk result (IsMarkedText lines.now number why graph.now text.old text.new) }
+) -> Result<usize, NoMemory>
+    requires pieces { contents pieces.now ≡ lines.now.lines }
+    requires reached { IsReached lines.now.lines (behind rest) number }
+    ensures { IfOk result (λ m. IsTold rest.entry m → IsMarkedText (with_lines lines.now (behind rest.entry)) number why graph.now text.old text.new) }
 {
     let line = line_at(pieces, number);
     let words = split(alloc, line, b' ')?;
@@ -349,7 +447,8 @@ fn put_clashes(
     put_ended(text, graph, lines, ended)?;
     put_names(text, pieces, &named, &space)?;
     put_columns(alloc, text, graph, words.as_slice(), why, mark)?;
-    put_advice(alloc, text, graph, why, line, words.as_slice(), mark)
+    put_advice(alloc, text, graph, why, line, words.as_slice(), mark)?;
+    Ok(missing_lines(rest, named.told.as_slice(), &space, ended))
 }
 
 /// The word that is refused. A line without form has none, so its words are not looked at one by one.

@@ -6,8 +6,8 @@ ghost use Rattle.graph_words.specs.Words.{pieces};
 ghost use Rattle.flow_top.specs.FlowText.{FlowText, IsFlowReading, has_event_verb};
 ghost use Rattle.explain_top.specs.Flows.{flow_text, over_text, other_rule, other_told, other_text, flow_rule, IsFlowWhole, IsFlowAnswerIn, IsInputAnswer};
 
-use crate::answer::{Answer, Verdict, as_told, explain_in, most_bytes, put_unread_text};
-use explain_text::{Lines, Text, line_at, put_mark, put_unread, split_lines};
+use crate::answer::{Answer, Verdict, as_told, explain_in, most_bytes, unread_text};
+use explain_text::{Text, line_at, put_mark, put_unread, split_lines};
 use flow_top::{FlowFault, FlowReading, answer_read, flow_reading, has_event_verb, other_word};
 use graph_model::graph::Graph;
 use graph_reader::Unread;
@@ -177,8 +177,7 @@ fn answer_refused(
     requires { IsFlowReading bytes.now (FlowReading.Refused unread.now) }
     ensures { IfOk result (λ a. IsFlowWhole all bytes.now a.verdict a.text) }
 {
-    let lines = Lines::of(alloc, bytes, all)?;
-    let mut text = put_unread_text(alloc, &lines, unread)?;
+    let mut text = unread_text(alloc, bytes, unread, all)?;
     text.put(flow_rule(unread.why))?;
     Ok(Answer {
         verdict: Verdict::Unread,

@@ -6,6 +6,7 @@ pub mod answer;
 mod columns;
 mod fields;
 pub mod flows;
+mod missing;
 pub mod program;
 
 pub use answer::{Answer, Verdict, explain_bytes, explain_in};

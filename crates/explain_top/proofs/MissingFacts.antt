@@ -1,0 +1,23 @@
+-- Names that no line gives.
+use Rattle.std.proofs.Common.{◌≡◌, ℕ, ◌+◌, ◌<◌, Bool, true, false, Bor, List, length, take, refl, inl, inr, sym, subst}
+use Rattle.std.specs.Prelude.{◌||◌, is_some, Contains, Option, Some, None}
+use Rattle.std.proofs.lemmas.Bool.{true≢false}
+use Rattle.std.proofs.lemmas.Option.{none-some}
+use Rattle.std.specs.List.{slice_index_or}
+use Rattle.std.proofs.lemmas.List.{take_more}
+use Rattle.std.proofs.lemmas.List.Elements.{Contains-push_cases}
+use Rattle.explain_text.specs.declared.naming.NamedWord.{NamedWord}
+use Rattle.explain_top.specs.Missing.{IsSettled, IsTold}
+
+-- one more name of some
+pub settled_more : (more : List (List ℕ)) (xs : List NamedWord) (k : ℕ) (d : NamedWord) → k < length xs → IsSettled more (slice_index_or xs k d) → ((x : NamedWord) → Contains (take k xs) x → IsSettled more x) → (x : NamedWord) → Contains (take (k + 1) xs) x → IsSettled more x
+settled_more more xs k d below here each x c = elim (Contains-push_cases (take k xs) (slice_index_or xs k d) x (subst (λ zs. Contains zs x) (take_more xs k d below) c)) [ inl b ↦ each x b | inr e ↦ subst (IsSettled more) e here ]
+
+-- where lines are left, none of them is missing
+pub none_missing : (rest : Bor (List ℕ)) (m : ℕ) → IsTold (Some rest) m → m ≡ 0
+none_missing rest m (inl e) = absurd (none-some rest (sym e))
+none_missing rest m (inr e) = e
+
+pub none_is : (o : Option ℕ) (b : Bool) → (is_some o || b) ≡ false → o ≡ None
+none_is None b e = refl
+none_is (Some k) b e = absurd (true≢false e)

@@ -1,0 +1,85 @@
+//! Which lines behind the first ones are told of.
+
+ghost use Rattle.std.specs.Prelude.{◌≡◌, Contains, IfSome};
+ghost use Rattle.graph_words.specs.Words.{pieces};
+ghost use Rattle.explain_text.specs.Front.{behind};
+ghost use Rattle.explain_text.specs.declared.naming.NamedWord.{NamedWord};
+ghost use Rattle.explain_top.specs.Missing.{AreSettled, AreSettledBy, IsSettled, IsTold};
+
+use explain_text::{NamedWord, place_in};
+
+/// How many names are looked up behind the first lines at most.
+const MOST_NAMES: usize = 16;
+
+/// How many lines behind the first ones are told of: none where each name that no line of these gives
+/// is given by none of the rest. More than there are stand for all.
+pub(crate) fn missing_lines(
+    rest: Option<&[u8]>,
+    named: &[NamedWord],
+    space: &Option<NamedWord>,
+    ended: Option<u32>,
+) -> usize
+    ensures { IsTold rest.entry result → AreSettled (behind rest.entry) named.now space.now ended }
+{
+    match rest {
+        None => 0,
+        Some(bytes) => missing_in(bytes, named, space, ended),
+    }
+}
+
+/// The same of the lines of these bytes.
+fn missing_in(
+    bytes: &[u8],
+    named: &[NamedWord],
+    space: &Option<NamedWord>,
+    ended: Option<u32>,
+) -> usize
+    ensures { result ≡ 0 → AreSettledBy (pieces 10 bytes.now) named.now space.now ended }
+{
+    if ended.is_some() || named.len() > MOST_NAMES {
+        return usize::MAX;
+    }
+    most(missing_names(bytes, named), missing_space(bytes, space))
+}
+
+/// The greater of two numbers.
+fn most(one: usize, other: usize) -> usize
+    ensures one { result ≡ 0 → one ≡ 0 }
+    ensures other { result ≡ 0 → other ≡ 0 }
+{
+    if one > other { one } else { other }
+}
+
+/// How many lines of these bytes some names ask for.
+fn missing_names(bytes: &[u8], named: &[NamedWord]) -> usize
+    ensures { result ≡ 0 → (x : NamedWord) → Contains named.now x → IsSettled (pieces 10 bytes.now) x }
+{
+    let mut missing = 0;
+    for word in named {
+        missing = most(missing, missing_name(bytes, word));
+    }
+    missing
+}
+
+/// How many the space of a column asks for.
+fn missing_space(bytes: &[u8], space: &Option<NamedWord>) -> usize
+    ensures { result ≡ 0 → IfSome space.now (IsSettled (pieces 10 bytes.now)) }
+{
+    match space {
+        Some(word) => missing_name(bytes, word),
+        None => 0,
+    }
+}
+
+/// How many a name asks for: up to the line that gives it, where none of the first does.
+fn missing_name(bytes: &[u8], word: &NamedWord) -> usize
+    ensures { result ≡ 0 → IsSettled (pieces 10 bytes.now) word.now }
+{
+    if word.above.is_some() || word.below.is_some() {
+        return 0;
+    }
+    match place_in(word.word, bytes) {
+        Some(place) => place.saturating_add(1),
+        None => 0,
+    }
+}
