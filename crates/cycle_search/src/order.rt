@@ -141,7 +141,7 @@ impl Order {
 }
 
 /// Whether each edge leads to a line of a higher number.
-fn all_edges_ascend(graph: &Graph) -> bool
+pub fn all_edges_ascend(graph: &Graph) -> bool
     ensures { IsTrue result → (e : Edge) → Contains (edges graph.now) e → e.from < e.to }
 {
     edges_between_lines();

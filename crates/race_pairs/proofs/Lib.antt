@@ -7,3 +7,4 @@ pub mod Asking
 pub mod Public
 pub mod AccessLists
 mod Chains
+mod FreshLines

@@ -2,3 +2,4 @@ pub mod Races
 pub mod Summaries
 pub mod Laws
 pub mod Topmost
+pub mod Fresh

@@ -5,3 +5,4 @@ pub mod FloodSteps
 pub mod HighFlood
 pub mod NeedLaws
 pub mod NeedSteps
+mod PlainNeed

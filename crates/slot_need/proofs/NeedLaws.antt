@@ -15,7 +15,7 @@ count_suc : (p : ℕ → Bool) (xs : List ℕ) (k : ℕ) (b : Bool) → k < leng
 count_suc p xs k true h e = let m : count_by p (take (k + 1) xs) ≡ count_by p (take k xs) + 1 = count_by_more_yes p xs k 0 h e in omega arith
 count_suc p xs k false h e = let m : count_by p (take (k + 1) xs) ≡ count_by p (take k xs) = count_by_more_no p xs k 0 h e in omega arith
 
-count_of_first : (p : ℕ → Bool) (xs : List ℕ) (k : ℕ) → k ≤ length xs → count_by p (take k xs) ≡ count_below (λ i. p (slice_index xs i)) k
+pub count_of_first : (p : ℕ → Bool) (xs : List ℕ) (k : ℕ) → k ≤ length xs → count_by p (take k xs) ≡ count_below (λ i. p (slice_index xs i)) k
 count_of_first p xs zero h = refl
 count_of_first p xs (suc k) h =
     let one : suc k ≡ k + 1 = omega arith in
@@ -46,7 +46,7 @@ one_more true e x = omega arith
 one_more false e x = absurd (true≢false (sym e))
 
 -- numbers that do not pass add nothing to a count
-count_stays : (t : ℕ → Bool) (m d : ℕ) → ((i : ℕ) → m ≤ i → i < m + d → t i ≡ false) → count_below t (m + d) ≡ count_below t m
+pub count_stays : (t : ℕ → Bool) (m d : ℕ) → ((i : ℕ) → m ≤ i → i < m + d → t i ≡ false) → count_below t (m + d) ≡ count_below t m
 count_stays t m zero f = ap (count_below t) (let e : m + 0 ≡ m = omega arith in e)
 count_stays t m (suc d) f =
     let e : m + suc d ≡ suc (m + d) = omega arith in

@@ -1,11 +1,13 @@
 //! The need of a graph: how many slots serve any run of it, and at which line so many may be open.
 
-ghost use Rattle.std.specs.Prelude.{◌≡◌, ℕ, ◌+◌, ◌<◌, ◌≤◌, length, slice_index, IfOk, MatchOption};
+ghost use Rattle.std.specs.Prelude.{◌≡◌, ℕ, ◌+◌, ◌<◌, ◌≤◌, false, length, slice_index, IsTrue, IfOk, MatchOption};
+ghost use Rattle.graph_terms.specs.Graph.{never_comes};
 ghost use Rattle.graph_meaning.specs.Need.{IsNeed};
 ghost use Rattle.slot_need.specs.NeedLine.{IsNeedLine};
 ghost use Rattle.slot_need.specs.Sweep.{IsTally, IsTallyOf, IsTallyFor, IsFirstOpen, most_open, open_after};
 
 use crate::high_numbers::high_numbers;
+use cycle_search::order::all_edges_ascend;
 use graph_meaning::laws::{edges_between_lines, needs_are_one};
 use graph_model::graph::Graph;
 use graph_terms::limits::MAX_LINES_OF_THREE;
@@ -17,9 +19,38 @@ use std::alloc::Global;
 pub fn need_of(alloc: Global, graph: &Graph) -> Result<u32, NoMemory>
     ensures { IfOk result (IsNeed graph.now) }
 {
+    if all_wait_above(graph) {
+        return Ok(1);
+    }
     let lines = graph.lines();
     let tally = tally_of(alloc, graph)?;
     Ok(1 + most_open(tally.as_slice(), lines))
+}
+
+/// Whether there is no reservation, and each line comes and waits for lines above it alone.
+fn all_wait_above(graph: &Graph) -> bool
+    ensures { IsTrue result → IsNeed graph.now 1 }
+{
+    let _ = graph.lines();
+    if graph.locks() > 0 {
+        return false;
+    }
+    if !all_edges_ascend(graph) {
+        return false;
+    }
+    all_come(graph)
+}
+
+/// Whether each line comes.
+fn all_come(graph: &Graph) -> bool
+    ensures { IsTrue result → (i : ℕ) → i < length graph.now.lines → never_comes graph.now i ≡ false }
+{
+    for line in 0..graph.lines() {
+        if graph.never_comes(line) {
+            return false;
+        }
+    }
+    true
 }
 
 /// The topmost line at which the need of a graph is reached. `None` exactly where it has no lines.
