@@ -1,7 +1,8 @@
 //! Lines of declarations.
 
-ghost use Rattle.std.specs.Prelude.{◌≡◌, map, false, [], MatchResult};
+ghost use Rattle.std.specs.Prelude.{◌≡◌, map, true, false, [], MatchResult};
 ghost use Rattle.graph_terms.specs.Fits.{decl_fault, is_used};
+ghost use Rattle.graph_terms.specs.Name.{is_name_in};
 ghost use Rattle.graph_words.specs.Draft.{space_with, columns_decl, columns_with, lock_with, barrier_with};
 ghost use Rattle.graph_reader.specs.Reading.{IsDeclBy, IsDeclRead, space_error, space_reason, columns_reason, spelled_columns, columns_lack, AreFields, AreNoFields};
 
@@ -12,7 +13,7 @@ use graph_terms::limits::Limits;
 use graph_terms::lists::{ItemList, NameList};
 use graph_terms::name::Name;
 use graph_terms::why::Why;
-use graph_words::intervals::intervals;
+use graph_words::intervals::{intervals, one_interval};
 use graph_words::names::has_repeat;
 use graph_words::numbers::{count, value};
 use graph_words::words::split;
@@ -110,6 +111,20 @@ fn read_intervals(
     }
 }
 
+/// The declaration of a space with the intervals that a word spells. Out of line, since most spaces have one.
+#[inline(never)]
+fn read_spelled(alloc: Global, graph: &Graph, name: Name, word: &[u8]) -> Result<Decl, ItemError>
+    requires new { is_used graph.now name ≡ false }
+    requires named { is_name_in graph.now.format name ≡ true }
+    ensures { IsDeclRead graph.now (space_with name word.now) result }
+{
+    match intervals(alloc, word) {
+        Ok(Some(pairs)) => read_intervals(alloc, graph, name, &pairs),
+        Ok(None) => Err(ItemError::Refused(Why::Number)),
+        Err(_) => Err(ItemError::NoMemory),
+    }
+}
+
 /// The declaration of a space.
 pub(crate) fn read_space(
     alloc: Global,
@@ -125,10 +140,9 @@ pub(crate) fn read_space(
     if stands_for(graph, &new).is_some() {
         return Err(ItemError::Refused(Why::Twice));
     }
-    match intervals(alloc, word) {
-        Ok(Some(pairs)) => read_intervals(alloc, graph, new, &pairs),
-        Ok(None) => Err(ItemError::Refused(Why::Number)),
-        Err(_) => Err(ItemError::NoMemory),
+    match one_interval(word) {
+        Some(pair) => read_intervals(alloc, graph, new, &[pair]),
+        None => read_spelled(alloc, graph, new, word),
     }
 }
 

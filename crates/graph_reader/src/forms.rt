@@ -28,7 +28,7 @@ use word_meanings::faults::Faults;
 use word_meanings::known::{known_events, known_parts};
 use word_meanings::lookup::stands_for;
 use word_meanings::parts::read_parts;
-use word_meanings::recent::{Recent, no_recent};
+use word_meanings::recent::{Recent, forget_columns};
 
 fn is_column(place: Place) -> bool
     ensures { result ≡ is_column place }
@@ -239,10 +239,11 @@ pub(crate) fn take_form<'a>(
         return Err(ItemError::Refused(Why::Name));
     };
     let Some(parts) = known_parts(graph, recent, kind.places(), words) else {
-        *recent = no_recent();
+        forget_columns(recent);
         return take_refused(alloc, graph, kind, name, words);
     };
-    match known_events(alloc, graph, room_events(graph.format(), kind, words)) {
+    let events = room_events(graph.format(), kind, words);
+    match known_events(alloc, graph, &mut recent.line, events) {
         Ok(Some(on)) => offer(
             graph,
             Line {
@@ -252,7 +253,7 @@ pub(crate) fn take_form<'a>(
             },
         ),
         Ok(None) => {
-            *recent = no_recent();
+            forget_columns(recent);
             take_refused(alloc, graph, kind, name, words)
         }
         Err(_) => Err(ItemError::NoMemory),

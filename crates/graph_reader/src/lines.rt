@@ -26,7 +26,7 @@ use graph_terms::why::Why;
 use graph_words::words::{behind, is_same, kind_of, word};
 use index_spaces::Op;
 use std::alloc::Global;
-use word_meanings::recent::{Recent, no_recent};
+use word_meanings::recent::{Recent, forget_columns};
 
 /// The reduction that a word names.
 fn op_of(word: &[u8]) -> Option<Op>
@@ -142,6 +142,7 @@ fn read_decl(alloc: Global, graph: &Graph, words: &[&[u8]]) -> Result<Decl, Item
 fn merge_line(
     alloc: Global,
     graph: &mut Graph,
+    last: &mut u32,
     ignores: bool,
     name: &[u8],
     words: &[&[u8]],
@@ -151,7 +152,7 @@ fn merge_line(
     if words.len() < 2 {
         return Err(ItemError::Refused(Why::Syntax));
     }
-    take_merge(alloc, graph, ignores, name, behind(words, 1))
+    take_merge(alloc, graph, last, ignores, name, behind(words, 1))
 }
 
 /// Puts the call that words spell, of which the first says so, at the end, where it fits; else the graph stays as it was.
@@ -194,6 +195,7 @@ fn kind_line<'a>(
 fn other_line(
     alloc: Global,
     graph: &mut Graph,
+    last: &mut u32,
     name: &[u8],
     words: &[&[u8]],
 ) -> Result<(), ItemError>
@@ -202,10 +204,10 @@ fn other_line(
 {
     let verb = word(words, 0);
     if is_same(verb, b"merge") {
-        return merge_line(alloc, graph, false, name, words);
+        return merge_line(alloc, graph, last, false, name, words);
     }
     if is_same(verb, b"mergei") {
-        return merge_line(alloc, graph, true, name, words);
+        return merge_line(alloc, graph, last, true, name, words);
     }
     if is_same(verb, b"call") {
         return take_call(alloc, graph, name, words);
@@ -229,8 +231,8 @@ fn take_named<'a>(
     match kind_of(graph.format(), words) {
         Some(kind) => kind_line(alloc, graph, recent, kind, name, words),
         None => {
-            *recent = no_recent();
-            other_line(alloc, graph, name, words)
+            forget_columns(recent);
+            other_line(alloc, graph, &mut recent.line, name, words)
         }
     }
 }
@@ -309,6 +311,6 @@ pub(crate) fn take_words<'a>(
     if is_operation(words) {
         return take_operation(alloc, graph, recent, words);
     }
-    *recent = no_recent();
+    forget_columns(recent);
     take_declaration(alloc, graph, words)
 }

@@ -22,7 +22,8 @@ use index_spaces::NoMemory;
 use index_spaces::room::{push_within, with_room};
 use std::alloc::Global;
 use word_meanings::checks::{name_in, names_in, names_repeat};
-use word_meanings::lookup::{line, look_up, stands_for};
+use word_meanings::lookup::{look_up, stands_for};
+use word_meanings::recent::recent_line;
 
 /// Whether a word names no item.
 fn any_unknown(graph: &Graph, words: &[&[u8]]) -> bool
@@ -33,15 +34,20 @@ fn any_unknown(graph: &Graph, words: &[&[u8]]) -> bool
         .any(|word| look_up(graph, word).found.is_none())
 }
 
-/// The numbers of the lines that words name. `None` exactly where one of them names no line. All its room is asked for
-/// at once.
-fn lines_of(alloc: Global, graph: &Graph, words: &[&[u8]]) -> Result<Option<Vec<u32>>, NoMemory>
+/// The numbers of the lines that words name, by the number of the line that was last found. `None` exactly where one of
+/// them names no line. All its room is asked for at once.
+fn lines_of(
+    alloc: Global,
+    graph: &Graph,
+    last: &mut u32,
+    words: &[&[u8]],
+) -> Result<Option<Vec<u32>>, NoMemory>
     ensures { IfOk result (λ o. MatchOption o (all_lines graph.now (contents words.now) ≡ false)
         (λ v. (v.items ≡ map (line_number graph.now) (contents words.now)) × (all_lines graph.now (contents words.now) ≡ true))) }
 {
     let mut numbers = with_room(alloc, words.len())?;
     for word in words {
-        let Some(number) = line(graph, word) else {
+        let Some(number) = recent_line(graph, last, word) else {
             return Ok(None);
         };
         push_within(&mut numbers, number);
@@ -142,6 +148,7 @@ fn take_lines(
 pub(crate) fn take_merge(
     alloc: Global,
     graph: &mut Graph,
+    last: &mut u32,
     ignores: bool,
     name: &[u8],
     words: &[&[u8]],
@@ -152,7 +159,7 @@ pub(crate) fn take_merge(
     let Some(name) = name_in(graph, name) else {
         return Err(ItemError::Refused(Why::Name));
     };
-    match lines_of(alloc, graph, words) {
+    match lines_of(alloc, graph, last, words) {
         Ok(Some(numbers)) => take_lines(alloc, graph, ignores, name, words, numbers),
         Ok(None) => Err(merge_error(alloc, graph, &name, words)),
         Err(_) => Err(ItemError::NoMemory),

@@ -1,8 +1,8 @@
 -- Where a loop over bytes stops at the first byte that is sought, and what the pieces are there.
-use Rattle.std.proofs.Common.{◌≡◌, ℕ, zero, suc, ◌+◌, ◌-◌, ◌<◌, true, false, List, [], ◌∷◌, length, take, drop, get_or, sym, ◌∙◌, ap, refl, Bool, cond, length-drop, take_all, arith, ◌++◌, Bor}
+use Rattle.std.proofs.Common.{◌≡◌, ℕ, zero, suc, ◌+◌, ◌-◌, ◌<◌, ◌≤◌, true, false, List, [], ◌∷◌, length, take, drop, get_or, sym, ◌∙◌, ap, refl, Bool, cond, length-drop, take_all, arith, ◌++◌, Bor}
 use Rattle.std.specs.Prelude.{◌==◌, Some, None, slice_set}
 use Rattle.basics.specs.Words.{contents}
-use Rattle.std.proofs.lemmas.List.{append_assoc, map-append, length-append, take_more_set}
+use Rattle.std.proofs.lemmas.List.{append_assoc, map-append, length-append, take_more_set, drop-drop, get_or-drop}
 use Rattle.std.specs.List.{list_any, onto_first, position_or_len, after_first}
 use Rattle.std.proofs.lemmas.Bool.{ne_eqb, eq-eqb, or_from, or_left, or_right, or_parts, cond-false}
 use Rattle.std.proofs.lemmas.List.Sums.{position_or_len_is}
@@ -28,6 +28,27 @@ cut_at c bs i l h e =
       front_is = ap (λ n. take n bs) (sym at);
       back_is = take_all (length bs - (i + 1)) (drop (i + 1) bs) (let n : length (drop (i + 1) bs) ≡ length bs - (i + 1) = length-drop (i + 1) bs in omega arith) ∙ ap (λ n. drop (n + 1) bs) (sym at);
     }
+
+-- the same of the bytes from a start on, and where none is left
+behind_start : (c : ℕ) (bs : List ℕ) (start end : ℕ) → ((k : ℕ) → start ≤ k → k < end → get_or bs k 0 ≡ c → ⊥) → (k : ℕ) → start + k < end → get_or (drop start bs) k 0 ≡ c → ⊥
+behind_start c bs start end h k l e = h (start + k) (omega arith) l (sym (get_or-drop start bs k 0) ∙ e)
+
+pub cut_behind : (c : ℕ) (bs : List ℕ) (start end : ℕ) → start ≤ end → end < length bs → ((k : ℕ) → start ≤ k → k < end → get_or bs k 0 ≡ c → ⊥) → get_or bs end 0 ≡ c →
+    IsCut c (drop start bs) (take (end - start) (drop start bs)) (drop (end + 1) bs)
+cut_behind c bs start end begins l h e =
+    let size = length-drop start bs in
+    let at : start + (end - start) ≡ end = omega (arith, begins) in
+    let cut = cut_at c (drop start bs) (end - start) (omega (arith, size, begins, l)) (λ k low. behind_start c bs start end h k (omega (arith, low, begins))) (get_or-drop start bs (end - start) 0 ∙ (ap (λ n. get_or bs n 0) at ∙ e)) in
+    let far : start + (end - start + 1) ≡ end + 1 = omega (arith, begins) in
+    let rest : drop (end - start + 1) (drop start bs) ≡ drop (end + 1) bs = drop-drop (end - start + 1) start bs ∙ ap (λ n. drop n bs) far in
+    record {
+      there = cut.there;
+      front_is = cut.front_is;
+      back_is = sym rest ∙ (sym (take_all (length (drop start bs) - (end - start + 1)) (drop (end - start + 1) (drop start bs)) (let n = length-drop (end - start + 1) (drop start bs) in omega (arith, n))) ∙ cut.back_is);
+    }
+
+pub none_behind : (c : ℕ) (bs : List ℕ) (start : ℕ) → ((k : ℕ) → start ≤ k → k < length bs → get_or bs k 0 ≡ c → ⊥) → list_any (λ b. b == c) (drop start bs) ≡ false
+none_behind c bs start h = no_stop c (drop start bs) (λ k l. behind_start c bs start (length bs) h k (let n = length-drop start bs in omega (arith, l, n)))
 
 -- without the byte, the bytes are the one piece
 pub one_piece : OnePiece

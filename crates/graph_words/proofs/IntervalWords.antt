@@ -1,11 +1,12 @@
 -- Words that spell intervals.
 use Rattle.std.proofs.Common.{true, false, true≢false, eqb-true, ◌≡◌, ℕ, zero, suc, ◌+◌, ◌<◌, List, [], ◌∷◌, ◌++◌, length, take, get_or, refl, sym, ◌∙◌, ap, arith, Bor}
-use Rattle.std.specs.Prelude.{Option, Some, None, ◌==◌}
+use Rattle.std.specs.Prelude.{Option, Some, None, IfSome, ◌==◌}
 use Rattle.graph_words.specs.Words.{pieces, both_numbers, interval_of, with_interval, all_intervals, intervals_of, words_of}
 use Rattle.basics.specs.Numbers.{number_up_to}
 use Rattle.graph_words.specs.Cuts.{IsCut, two_pieces, behind_two, dotted}
 use Rattle.std.proofs.lemmas.Option.{none-some, same_Some}
-use Rattle.graph_words.proofs.CutBytes.{pieces_cut, some_pieces}
+use Rattle.std.specs.List.{list_any}
+use Rattle.graph_words.proofs.CutBytes.{one_piece, pieces_cut, some_pieces}
 use Rattle.graph_words.proofs.NameLists.{word_more}
 
 pub dots_behind : (w low rest : List ℕ) → IsCut 46 w low rest → dotted (pieces 46 w) ≡ behind_two low (two_pieces (pieces 46 rest))
@@ -61,6 +62,11 @@ pub none_at : (ws : List (Bor (List ℕ))) (i : ℕ) (d : Bor (List ℕ)) → i 
 none_at [] i d l h = absurd (omega arith)
 none_at (w ∷ ws) zero d l h = ap (λ o. with_interval o (all_intervals (words_of ws))) h
 none_at (w ∷ ws) (suc i) d l h = ap (with_interval (interval_of (pieces 46 w.now))) (none_at ws i d (omega arith) h) ∙ with_none (interval_of (pieces 46 w.now))
+
+-- a word without a comma spells one interval alone
+pub one_alone : (w : List ℕ) (o : Option (ℕ × ℕ)) → o ≡ interval_of (pieces 46 w) → list_any (λ b. b == 44) w ≡ false → IfSome o (λ pair. intervals_of w ≡ Some (pair ∷ []))
+one_alone w None e none = tt
+one_alone w (Some pair) e none = ap all_intervals (one_piece 44 w none) ∙ ap (λ o. with_interval o (Some [])) (sym e)
 
 -- a word spells one interval at least
 pub some_interval : (w : List ℕ) → intervals_of w ≡ Some [] → ⊥

@@ -1,7 +1,7 @@
 //! Intervals that words spell.
 
 ghost use Rattle.basics.specs.Words.{contents};
-ghost use Rattle.std.specs.Prelude.{◌≡◌, map, IfOk};
+ghost use Rattle.std.specs.Prelude.{◌≡◌, map, [], ◌∷◌, Some, IfOk, IfSome};
 ghost use Rattle.graph_words.specs.Words.{pieces, interval_of, all_intervals, intervals_of};
 ghost use Rattle.graph_words.specs.Cuts.{dotted, Gives};
 
@@ -55,6 +55,16 @@ fn each_interval(alloc: Global, words: &[&[u8]]) -> Result<Option<Vec<(u32, u32)
         };
     }
     Ok(Some(pairs))
+}
+
+/// The interval of a word that spells one alone, as most do. `None` says nothing.
+pub fn one_interval(word: &[u8]) -> Option<(u32, u32)>
+    ensures { IfSome result (λ pair. intervals_of word.now ≡ Some (pair ∷ [])) }
+{
+    match cut(word, b',') {
+        Some(_) => None,
+        None => interval(word),
+    }
 }
 
 /// The intervals that a word spells, with a comma between each two.

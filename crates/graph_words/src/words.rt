@@ -38,14 +38,16 @@ pub fn cut_into<'a>(
     ensures count { IfOk result (λ n. n ≤ length words.new.items) }
     ensures pieces { IfOk result (λ n. contents (take n words.new.items) ≡ pieces separator bytes.now) }
 {
-    let mut rest = bytes;
     let mut count = 0;
-    while let Some((word, after)) = cut(rest, separator) {
-        put(words, count, word)?;
-        rest = after;
-        count += 1;
+    let mut start = 0;
+    for end in 0..bytes.len() {
+        if bytes[end] == separator {
+            put(words, count, &bytes[start..end])?;
+            start = end + 1;
+            count += 1;
+        }
     }
-    put(words, count, rest)?;
+    put(words, count, &bytes[start..])?;
     Ok(count + 1)
 }
 

@@ -9,18 +9,19 @@ use Rattle.basics.specs.Words.{contents}
 use Rattle.basics.proofs.Choices.{or_true}
 use Rattle.basics.proofs.TestedLists.{position_any}
 use Rattle.graph_terms.specs.declared.found.Found.{Found}
+use Rattle.graph_terms.specs.declared.found.Found.TheVariants as found
 use Rattle.graph_terms.specs.declared.table.Place as table
 use Rattle.graph_terms.specs.declared.table.Place.TheVariants as places
 use Rattle.graph_terms.specs.declared.verb.Line.{Line}
-use Rattle.graph_terms.specs.Graph.{GraphValue, line_passes, is_user, is_phase, is_acquire}
+use Rattle.graph_terms.specs.Graph.{GraphValue, named_spaces, line_passes, is_user, is_phase, is_acquire}
 use Rattle.graph_terms.specs.Fits.{IsGraph, is_used}
 use Rattle.graph_terms.specs.Name.{is_name_in}
-use Rattle.graph_words.specs.Draft.{Placed, as_place, EventName, Column, Value, Weight, events_placed}
+use Rattle.graph_words.specs.Draft.{Placed, as_place, EventName, SpaceName, Column, Value, Weight, events_placed}
 use Rattle.graph_words.specs.Words.{pieces, first_piece, value_of, weight_of}
 use Rattle.word_meanings.specs.WordFaults.{misnamed, twice, unknown, unlike, misnumbered, is_line_name, is_inst_name, has_column, is_data_name, has_data_column}
 use Rattle.word_meanings.specs.Lookups.{IsFound, found_number, found_twice, found_alike, column_place}
 use Rattle.word_meanings.specs.Telling.{NamesThing, Tells, no_faults, is_refused, any_refused}
-use Rattle.word_meanings.proofs.Owners.{line_used, line_named}
+use Rattle.word_meanings.proofs.Owners.{is_found, line_used, line_named, unused_misnamed}
 use Rattle.word_meanings.proofs.ColumnWords.{no_other}
 use Rattle.word_meanings.proofs.SeenWords.{twice_is, unlike_is, unknown_is, number_is, misnamed_is, name_plain}
 
@@ -83,6 +84,20 @@ module _ (g : GraphValue) (w : List ℕ) (o : Option Found) (f : IsFound g w o) 
 
   pub unlike_refused : found_alike g p o ≡ false → is_refused g (as_place p) w ≡ true
   unlike_refused h = kind_refuses (misnamed g.format (as_place p) w) (twice g (as_place p) w) (unknown g (as_place p) w) (unlike g (as_place p) w) (misnumbered g.format (as_place p) w) (sym (unlike_is g w o f p n) ∙ ap not h)
+
+-- the name of a space
+used_named_by : (g : GraphValue) (w : List ℕ) (b : Bool) → IsGraph g → is_used g w ≡ true → is_name_in g.format w ≡ b → b ≡ true
+used_named_by g w true n h e = refl
+used_named_by g w false n h e = absurd (true≢false (sym h ∙ unused_misnamed g w n e))
+
+pub space_tells : (g : GraphValue) (w : List ℕ) (s : ℕ) → IsGraph g → Some s ≡ position (λ (x : List ℕ × List (ℕ × ℕ)). bytes_eq x.0 w) (named_spaces g) → Tells g SpaceName w (record { faults = no_faults; number = s; value = 0 })
+space_tells g w s graph h =
+    let f = is_found g w graph (Some (found.Space s)) (sym h) in
+    named_tells g w (Some (found.Space s)) f places.Space tt s (used_named_by g w (is_name_in g.format w) graph f.used refl) refl refl refl
+
+pub space_refused : (g : GraphValue) (w : List ℕ) → None ≡ position (λ (x : List ℕ × List (ℕ × ℕ)). bytes_eq x.0 w) (named_spaces g) → is_refused g SpaceName w ≡ true
+space_refused g w h = kind_refuses (misnamed g.format SpaceName w) (twice g SpaceName w) (unknown g SpaceName w) (unlike g SpaceName w) (misnumbered g.format SpaceName w)
+    (ap not (position_any (λ (x : List ℕ × List (ℕ × ℕ)). bytes_eq x.0 w) (named_spaces g) ∙ ap (λ (q : Option ℕ). is_some q) (sym h)))
 
 -- the name of no column: of an instance without the field, or of no instance
 column_refused : (m u i h d : Bool) → h ≡ false → (m || (false || ((u || ((i && not h) || d)) || (not i || false)))) ≡ true

@@ -6,5 +6,6 @@ pub mod Places
 pub mod ColumnWords
 pub mod SeenWords
 pub mod KnownWords
+mod NumberedNames
 pub mod PartLists
 pub mod Public

@@ -3,12 +3,12 @@
 ghost use Rattle.basics.specs.Words.{contents};
 ghost use Rattle.std.specs.Prelude.{◌≡◌, ◌≤◌, map, length, true, IfOk, MatchOption};
 ghost use Rattle.graph_terms.specs.Table.{parts_from};
-ghost use Rattle.graph_words.specs.Draft.{as_place, Column, Value, Weight, number_in, line_number, words_in, events_placed};
+ghost use Rattle.graph_words.specs.Draft.{as_place, Column, SpaceName, Value, Weight, number_in, line_number, words_in, events_placed};
 ghost use Rattle.word_meanings.specs.Telling.{AllTell, NamesThing, IsKnown, no_faults, any_refused};
 ghost use Rattle.word_meanings.specs.Recent.{IsRecent};
 
-use crate::lookup::{Lookup, line, look_up};
-use crate::recent::{Recent, recent_column};
+use crate::lookup::{Lookup, look_up};
+use crate::recent::{Recent, recent_column, recent_line, recent_space};
 use crate::seen::{is_alike, is_twice, number};
 use graph_model::graph::Graph;
 use graph_terms::lists::EventList;
@@ -67,6 +67,17 @@ fn known_column<'a>(graph: &Graph, recent: &mut Recent<'a>, word: &'a [u8]) -> O
     }
 }
 
+/// The space that a word names. `None` exactly where a reason refuses the word.
+fn known_space(graph: &Graph, last: &mut u32, word: &[u8]) -> Option<Known>
+    ensures { IsKnown graph.now SpaceName word.now result }
+{
+    let _ = graph.decls();
+    match recent_space(graph, last, word) {
+        Some(space) => Some(named(space)),
+        None => None,
+    }
+}
+
 /// The value that a word spells. `None` exactly where it spells none.
 fn known_value(graph: &Graph, word: &[u8]) -> Option<Known>
     ensures { IsKnown graph.now Value word.now result }
@@ -100,8 +111,10 @@ fn known_word<'a>(
     ensures recent { IsRecent graph.now recent.new }
 {
     match place {
-        Place::User | Place::Phase | Place::Acquire | Place::Lock | Place::Barrier | Place::Space =>
-            known_name(graph, place, word),
+        Place::User | Place::Phase | Place::Acquire | Place::Lock | Place::Barrier => {
+            known_name(graph, place, word)
+        }
+        Place::Space => known_space(graph, &mut recent.space, word),
         Place::Column(..) => known_column(graph, recent, word),
         Place::Value => known_value(graph, word),
         Place::Times => Some(named(0)),
@@ -139,10 +152,12 @@ pub fn known_parts<'a>(
     Some(parts)
 }
 
-/// The lines that the words of events name. `None` exactly where a reason refuses one of them.
+/// The lines that the words of events name, by the number of the line that was last found. `None` exactly where a reason
+/// refuses one of them.
 pub fn known_events(
     alloc: Global,
     graph: &Graph,
+    last: &mut u32,
     words: &[&[u8]],
 ) -> Result<Option<EventList>, NoMemory>
     ensures { IfOk result (λ found. MatchOption found (any_refused graph.now (events_placed (contents words.now)) ≡ true)
@@ -155,7 +170,7 @@ pub fn known_events(
     let _ = graph.decls();
     let mut lines = EventList::new(alloc);
     for word in words {
-        let Some(number) = line(graph, word) else {
+        let Some(number) = recent_line(graph, last, word) else {
             return Ok(None);
         };
         lines.push(number)?;

@@ -16,16 +16,16 @@ KnownEvents g es o = MatchOption o (any_refused g (events_placed es) ≡ true) (
 
 pub offer-requires : goal.offer-requires
 offer-requires c =
-    let k = known_line c.args.graph.now c.args.kind c.args.name.now c.in-Some.new (contents c.args.words.now) (contents c.room_events.result.now) c.places.result.now c.in-Some-known_parts.parts c.of.result c.in-Ok-Some.on
-    c.requires.there c.in-Some.ensures c.places.ensures c.in-Some-known_parts.ensures.known c.of.ensures (c.room_events.ensures ∙ ap (λ fm. on_events fm (form_of c.args.kind) (contents c.args.words.now)) c.format.ensures)
-    (subst (KnownEvents c.args.graph.now (contents c.room_events.result.now)) c.in-Ok-Some.field-0-is c.in-Ok-Some.ensures) in
+    let k = known_line c.args.graph.now c.args.kind c.args.name.now c.in-Some.new (contents c.args.words.now) (contents c.room_events-events.result.now) c.places.result.now c.in-Some-known_parts.parts c.of.result c.in-Ok-Some.on
+    c.requires.there c.in-Some.ensures c.places.ensures c.in-Some-known_parts.ensures.known c.of.ensures (c.room_events-events.ensures ∙ ap (λ fm. on_events fm (form_of c.args.kind) (contents c.args.words.now)) c.format.ensures)
+    (subst (KnownEvents c.args.graph.now (contents c.room_events-events.result.now)) c.in-Ok-Some.field-0-is c.in-Ok-Some.ensures) in
     line_taken c.args.graph.now (kind_draft c.args.graph.now c.args.kind c.args.name.now (contents c.args.words.now)) (line_with c.in-Some.new c.of.result c.in-Ok-Some.on) c.requires.takable k.0 k.1
 
 pub returns-in-Ok-Some-clause-done : goal.returns-in-Ok-Some-clause-done
 returns-in-Ok-Some-clause-done c =
-    let k = known_line c.args.graph.now c.args.kind c.args.name.now c.in-Some.new (contents c.args.words.now) (contents c.room_events.result.now) c.places.result.now c.in-Some-known_parts.parts c.of.result c.in-Ok-Some.on
-    c.requires.there c.in-Some.ensures c.places.ensures c.in-Some-known_parts.ensures.known c.of.ensures (c.room_events.ensures ∙ ap (λ fm. on_events fm (form_of c.args.kind) (contents c.args.words.now)) c.format.ensures)
-    (subst (KnownEvents c.args.graph.now (contents c.room_events.result.now)) c.in-Ok-Some.field-0-is c.in-Ok-Some.ensures) in
+    let k = known_line c.args.graph.now c.args.kind c.args.name.now c.in-Some.new (contents c.args.words.now) (contents c.room_events-events.result.now) c.places.result.now c.in-Some-known_parts.parts c.of.result c.in-Ok-Some.on
+    c.requires.there c.in-Some.ensures c.places.ensures c.in-Some-known_parts.ensures.known c.of.ensures (c.room_events-events.ensures ∙ ap (λ fm. on_events fm (form_of c.args.kind) (contents c.args.words.now)) c.format.ensures)
+    (subst (KnownEvents c.args.graph.now (contents c.room_events-events.result.now)) c.in-Ok-Some.field-0-is c.in-Ok-Some.ensures) in
     offered c.args.graph.now c.offer.new.graph (kind_draft c.args.graph.now c.args.kind c.args.name.now (contents c.args.words.now)) (line_with c.in-Some.new c.of.result c.in-Ok-Some.on) c.offer.result k.0 k.1 c.offer.ensures
 
 pub returns-in-Ok-Some-clause-recent : goal.returns-in-Ok-Some-clause-recent

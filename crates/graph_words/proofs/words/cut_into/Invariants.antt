@@ -1,13 +1,12 @@
-use Rattle.std.proofs.Common.{◌≡◌, ◌≤◌, ◌++◌, length, take}
+use Rattle.std.proofs.Common.{◌≡◌, ◌≤◌, ◌<◌, ◌++◌, ℕ, length, take, drop, get_or}
 use Rattle.basics.specs.Words.{contents}
 use Rattle.graph_words.specs.Words.{pieces}
 use Rattle.graph_words.proofs.words.cut_into.Given as goal
 
-abbrev pub invariant-loop-word : goal.invariant-loop-word
-invariant-loop-word l = record {
+abbrev pub invariant-loop-end : goal.invariant-loop-end
+invariant-loop-end l = record {
   within : l.count ≤ length l.words.items;
-  cut : contents (take l.count l.words.items) ++ pieces l.separator l.rest ≡ pieces l.separator l.bytes;
+  begins : l.start ≤ l.end;
+  none : (k : ℕ) → l.start ≤ k → k < l.end → get_or l.bytes k 0 ≡ l.separator → ⊥;
+  cut : contents (take l.count l.words.items) ++ pieces l.separator (drop l.start l.bytes) ≡ pieces l.separator l.bytes;
 }
-
-abbrev pub decreases-loop-word : goal.decreases-loop-word
-decreases-loop-word l = length l.rest
