@@ -34,7 +34,8 @@ fn declared(graph: &Graph, s: u32) -> Option<&Space>
 /// Whether a part has a first point, and all points of a space. The first point is sooner looked for
 /// than all.
 pub(crate) fn covers(graph: &Graph, part: &Part, space: &Space, first: u32) -> bool
-    ensures { result ≡ (has_point (part_space graph.now part.now) first && list_all (has_point (part_space graph.now part.now)) (points space.now)) }
+    ensures { result ≡ (has_point (part_space graph.now part.now) first
+        && list_all (has_point (part_space graph.now part.now)) (points space.now)) }
 {
     match space_of(graph, part) {
         Some(other) => has_all(other, space, first),

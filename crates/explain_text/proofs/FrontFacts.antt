@@ -1,6 +1,6 @@
 -- The first lines of a text, and those behind them.
 use Rattle.std.proofs.Common.{◌≡◌, ℕ, zero, suc, ◌+◌, ◌-◌, ◌<◌, ◌≤◌, Bool, true, false, cond, List, [], ◌∷◌, ◌++◌, length, drop, Bor, refl, sym, ◌∙◌, ap, arith}
-use Rattle.std.specs.Prelude.{◌==◌, nat_le, codes, decimal, Some, None, Result, Ok, Err, IfOk, Option}
+use Rattle.std.specs.Prelude.{◌==◌, nat_le, codes, decimal, Some, None, Result, Ok, Err, IfOk}
 use Rattle.std.specs.List.{list_any, slice_index_or}
 use Rattle.std.specs.Str.{bytes_eq}
 use Rattle.std.proofs.lemmas.List.{append-nil, get_or_append_left}
