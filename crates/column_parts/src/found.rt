@@ -26,7 +26,8 @@ use index_spaces::room::{push, with_room};
 use index_spaces::space::Space;
 use std::alloc::Global;
 
-/// The parts of each column of a graph: its accesses, those that meet put together.
+/// The parts of each column of a graph: its accesses, those that meet put together. Where more than
+/// `MAX_COLUMN_PIECES` of them lie apart, the whole column is one part.
 pub fn find_parts(alloc: Global, graph: &Graph) -> Result<Vec<Vec<Part>>, NoMemory>
     ensures { IfOk result (λ v. AreFound graph.now (spaces_of graph.now v.items) (length graph.now.lines)) }
 {
@@ -164,7 +165,7 @@ fn is_covered(parts: &[Part], graph: &Graph, s: u32) -> bool
     requires is_space { IsSpace (space_at graph.now s) }
     ensures { result ≡ is_covered graph.now parts.now (space_at graph.now s) }
 {
-    // Most accesses are over the very space of a part, which is told without a look at its points.
+    // An access over the very space of a part is told without a look at its points.
     if some_declared(parts, s) {
         return true;
     }

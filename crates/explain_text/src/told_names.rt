@@ -110,7 +110,8 @@ impl<'a> NameList<'a> {
     }
 }
 
-/// A number for the last three bytes of a name; names that are numbered have others where these digits are.
+/// A number for the last three bytes of a name. Names that differ in their last two digits alone have
+/// different ones.
 fn end_of(name: &[u8]) -> u8 {
     let mut end: u8 = 0;
     for byte in name.iter().rev().take(3) {

@@ -114,7 +114,8 @@ fn shorten(text: &mut Text, most: usize) -> Result<(), NoMemory>
     text.put(b"\n..\n")
 }
 
-/// The answer to bytes. Those that are the text of no graph are split no further than is told of.
+/// The answer to bytes. Those that are the text of no graph are split up to the refused line, and further
+/// where its names ask for it.
 fn answer_bytes(alloc: Global, bytes: &[u8], ends: bool, all: bool) -> Result<Answer, NoMemory>
     ensures { IfOk result (λ a. IsWholeAnswer ends all bytes.now a.verdict a.text) }
 {

@@ -17,6 +17,8 @@ use Rattle.column_parts.specs.declared.parts.Part.{Part}
 use Rattle.column_parts.specs.declared.parts.Part.TheVariants.{Declared, Union}
 use Rattle.column_parts.specs.Parts.{part_space, spaces, spaces_of, IsFound, AreLists, AreFound}
 use Rattle.column_parts.proofs.Public.{declared_by, part_point}
+use Rattle.index_spaces.specs.Space.{IsSpace}
+use Rattle.piece_graphs.specs.Uncut.{AreSpaces}
 use Rattle.piece_graphs.specs.Over.{IsPieceOf, own_spaces, piece_spaces, AreOver, AreOwnPieces}
 
 map_push : {X Y : Type 0} (f : X → Y) (xs : List X) (y : X) → map f (xs ++ y ∷ []) ≡ map f xs ++ f y ∷ []
@@ -43,6 +45,7 @@ none_over g c us = record {
   own = λ x k. absurd (contains_none x k);
   used = λ k low high. absurd (omega (arith, low, high));
   grown = ([], sym (append-nil us));
+  keeps_spaces = λ old. old;
 }
 
 own_more : (c : ℕ) (pieces : List Piece) (x : Piece) → ((y : Piece) → Contains pieces y → y.column ≡ c) → x.column ≡ c → (y : Piece) → Contains (pieces ++ x ∷ []) y → y.column ≡ c
@@ -62,6 +65,7 @@ one_over g c parts (Declared s) base us new pieces x over known is = record {
   own = own_more c pieces x over.own (ap (λ (y : Piece). y.column) is.1);
   used = λ k low high. let y = over.used k low (subst (λ vs. k < length vs) is.0 high) in (y.0, Contains-append_left pieces (x ∷ []) y.0 y.1, y.2);
   grown = (over.grown.0, is.0 ∙ over.grown.1);
+  keeps_spaces = λ old. subst AreSpaces (sym is.0) (over.keeps_spaces old);
 }
 one_over g c parts (Union t) base us new pieces x over known is = record {
   spaces_are = λ later.
@@ -73,6 +77,10 @@ one_over g c parts (Union t) base us new pieces x over known is = record {
   own = own_more c pieces x over.own (ap (λ (y : Piece). y.column) is.1);
   used = λ k low high. by_place k low (subst (λ vs. k < length vs) is.0 high) (cases_lt k (length us));
   grown = (over.grown.0 ++ t ∷ [], is.0 ∙ (ap (λ vs. vs ++ t ∷ []) over.grown.1 ∙ append_assoc base over.grown.0 (t ∷ [])));
+  keeps_spaces = λ old v k. elim (Contains-push_cases us t v (subst (λ vs. Contains vs v) is.0 k)) [
+    | inl early ↦ over.keeps_spaces old v early
+    | inr same ↦ subst IsSpace same is.2
+  ];
 }
   where
     by_place : (k : ℕ) → length base ≤ k → k < length (us ++ t ∷ []) → (k < length us) ⊎ (length us ≤ k) → (y : Piece) × Contains (pieces ++ x ∷ []) y × (y.space ≡ length (named_spaces g) + k)
@@ -106,6 +114,7 @@ pub record AreFirst (g : GraphValue) (parts : Parts) (us : Unions) (lists : List
   pub spaces_are : (later : Unions) → piece_spaces g (us ++ later) lists ≡ spaces_of g parts
   pub own : (c : ℕ) (v : Vec Piece Global) (x : Piece) → slice_get lists c ≡ Some v → Contains v.items x → x.column ≡ c
   pub used : (k : ℕ) → k < length us → (c : ℕ) × (v : Vec Piece Global) × (x : Piece) × (slice_get lists c ≡ Some v) × Contains v.items x × (x.space ≡ length (named_spaces g) + k)
+  pub are_spaces : AreSpaces us
 
 pub none_first : (g : GraphValue) → AreFirst g [] [] []
 none_first g = record {
@@ -113,6 +122,7 @@ none_first g = record {
   spaces_are = λ later. refl;
   own = λ c v x at. absurd (none-some v at);
   used = λ k below. absurd (omega (arith, below));
+  are_spaces = λ t k. absurd (contains_none t k);
 }
 
 one_first : (g : GraphValue) (parts : Parts) (p : Vec Part Global) (us new : Unions) (lists : Lists) (v : Vec Piece Global) (c : ℕ) → c ≡ length parts → AreFirst g parts us lists → AreOver g c p.items us new v.items → AreFirst g (parts ++ p ∷ []) new (lists ++ v ∷ [])
@@ -132,6 +142,7 @@ one_first g parts p us new lists v c is first over = record {
     | inl early ↦ (let y = first.used k early in (y.0, y.1, y.2, got_in lists (v ∷ []) y.0 y.1 y.3, y.4, y.5))
     | inr late ↦ (let y = over.used k late below in (length lists, v, y.0, got_behind lists v [], y.1, y.2))
   ];
+  are_spaces = over.keeps_spaces first.are_spaces;
 }
 
 pub next_first : (g : GraphValue) (parts : Parts) (k : ℕ) (p : Vec Part Global) (us new : Unions) (lists put : Lists) (v : Vec Piece Global) → slice_get parts k ≡ Some p → k < length parts → AreFirst g (take k parts) us lists → AreOver g k p.items us new v.items →
@@ -151,6 +162,7 @@ all_first g parts k us lists past found first = record {
   found = subst (λ ts. AreFound g ts (length g.lines)) (sym spaces_as) found;
   own = first.own;
   used = first.used;
+  are_spaces = first.are_spaces;
 }
   where
     spaces_as : piece_spaces g us lists ≡ spaces_of g parts

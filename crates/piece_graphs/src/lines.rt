@@ -236,7 +236,7 @@ fn place_in(
     ensures found { result ≡ position (has_cell graph.now unions.now column (point_at (space_at graph.now space) 0)) own.now }
     ensures below { IfSome result (λ k. k < length own.now) }
 {
-    // Most accesses are over the very space of a piece, which is told without a look at its points.
+    // An access over the very space of a piece is told without a look at its points.
     match place_of_space(own, space) {
         Some(k) => Some(k),
         None => position(graph, unions, own, column, first_point(graph, space)),

@@ -76,6 +76,7 @@ fn piece_of(
     match part {
         Part::Declared(s) => Ok(Piece { column, space: *s }),
         Part::Union(space) => {
+            let _ = space.intervals();
             let number = next_number(graph, unions)?;
             push(unions, copy_of(alloc, space)?)?;
             Ok(Piece {

@@ -26,6 +26,11 @@ const AROUND: &str =
 const TAKEN: &str =
     "realm 3\nspace w 0..8\nspace low 0..3\nspace high 2..5\nspace most 0..6\nspace last 8..8\nspace six 6..6\ninst a w x\n\
     f = fill a.x low 1\ng = fill a.x high 1 on f\nh = fill a.x six 1\ni = fill a.x most 2 on g\nj = fill a.x last 1\nend\n";
+/// An access joins two unions, and a tile lies apart.
+const LINKED: &str =
+    "realm 3\nspace w 0..11\nspace a 0..2\nspace b 2..4\nspace c 6..8\nspace d 8..10\nspace e 4..6\nspace f 11..11\ninst x w y\n\
+    g = fill x.y a 1\nh = fill x.y b 1 on g\ni = fill x.y c 1 on h\nj = fill x.y d 1 on i\nk = fill x.y e 1 on j\n\
+    l = fill x.y f 1\nend\n";
 /// Spaces that cross beside a tile, in a graph that has the name of the first union.
 const NAMED_UNION: &str =
     "realm 3\nspace w 0..8\nspace Union_aaaa 0..3\nspace high 2..5\nspace last 6..8\ninst a w x\n\
@@ -105,6 +110,7 @@ fn pieces_of_small_graphs(rt: HostRuntime) -> Result<(), Fail> {
     );
     assert!(rt; is_cut(alloc, AROUND, &[(0, 2), (0, 5)])?);
     assert!(rt; is_cut(alloc, TAKEN, &[(0, 3), (0, 4)])?);
+    assert!(rt; is_cut(alloc, LINKED, &[(0, 7), (0, 6)])?);
     assert!(rt; is_cut(alloc, NAMED_UNION, &[])?);
     assert!(rt; is_cut(alloc, WITHIN, &[(0, 2), (0, 3)])?);
     assert!(rt; is_cut(alloc, ONE_EACH, &[])?);

@@ -28,6 +28,7 @@ returns-in-None-clause-none c = λ none.
     let g = c.args.graph.now in
     unfit c.args.columns.unions.items c.args.columns.pieces.items
     (subst (ArePieces g c.args.columns.unions.items) (sym c.requires.numbered.pieces) (all_found g c.args.columns.unions.items c.args.columns.lists.items c.lines.ensures.is_graph c.requires.own))
+    c.requires.own.are_spaces
     (subst AreOnce (sym c.requires.numbered.pieces) (all_once g c.args.columns.unions.items c.args.columns.lists.items c.lines.ensures.is_graph c.requires.own))
     (subst FewEach (sym c.requires.numbered.pieces) (few_each g c.args.columns.unions.items c.args.columns.lists.items c.lines.ensures.is_graph c.requires.own))
     (λ fits. c.in_ok-cut.ensures.none c.in-None.is fits)
