@@ -11,6 +11,7 @@ use self::faults::fault_of;
 use self::merges::{covers, meet, overlaps};
 use crate::NoMemory;
 use crate::limits::{MAX_INTERVALS, MAX_POINTS, SpaceLimits};
+use smallvec::SmallVec;
 use std::alloc::{AllocError, Global};
 use std::marker::Model;
 
@@ -31,12 +32,13 @@ pub enum SpaceFault {
     NoMemory,
 }
 
-/// A set of points, seen as its closed intervals, which ascend and do not touch.
+/// A set of points, seen as its closed intervals, which ascend and do not touch. Most spaces have one
+/// interval, which takes no allocation.
 #[derive(Drop)]
 pub struct Space {
-    intervals: Vec<(u32, u32)>,
+    intervals: SmallVec<(u32, u32), 1>,
     /// The rank of each interval's first point.
-    ranks: Vec<u32>,
+    ranks: SmallVec<u32, 1>,
     size: u64,
 }
 
@@ -52,7 +54,7 @@ impl Model for Space {
 }
 
 impl Space {
-    ghost use Rattle.std.specs.Prelude.{◌≡◌, ◌≢◌, ◌<◌, ◌≤◌, ◌^◌, ◌↔◌, length, IsTrue, IfOk, OnOk, IfErr, IfSome, IsSome, is_some, true, ◌&&◌, ℕ};
+    ghost use Rattle.std.specs.Prelude.{◌≡◌, ◌≢◌, ◌<◌, ◌≤◌, ◌^◌, ◌↔◌, length, IsTrue, IfOk, OnOk, IfErr, IfSome, IsSome, is_some, true, ◌&&◌, ℕ, [], ◌∷◌};
     ghost use Rattle.std.specs.List.{HoldsAt};
     ghost use Rattle.index_spaces.specs.Space.{interval_has, has_point, space_size, rank, point_at, IsSpace, IsWithin, Meet};
     ghost use Rattle.index_spaces.specs.SpaceFault.{space_fault, space_fault_in};
@@ -101,23 +103,40 @@ impl Space {
         requires few { space_size intervals.now ≤ MAX_POINTS_OF_THREE }
         ensures { IfOk result (λ s. s ≡ intervals.now) }
     {
-        Space::counted(alloc, Vec::from_slice(alloc, intervals)?)
+        match intervals {
+            [only] => Ok(Space::of_one(alloc, *only)),
+            _ => Space::counted(alloc, intervals),
+        }
     }
 
-    /// The space of these intervals.
-    fn counted(alloc: Global, intervals: Vec<(u32, u32)>) -> Result<Space, AllocError>
-        requires is_space { IsSpace intervals.items }
-        requires few { space_size intervals.items ≤ MAX_POINTS_OF_THREE }
-        ensures { IfOk result (λ s. s ≡ intervals.items) }
+    /// The space of one interval.
+    fn of_one(alloc: Global, interval: (u32, u32)) -> Space
+        requires is_space { IsSpace (interval ∷ []) }
+        requires few { space_size (interval ∷ []) ≤ MAX_POINTS_OF_THREE }
+        ensures { result ≡ interval ∷ [] }
     {
-        let mut ranks = Vec::with_capacity(alloc, intervals.len())?;
+        Space {
+            intervals: SmallVec::from_buf(alloc, [interval]),
+            ranks: SmallVec::from_buf(alloc, [0]),
+            size: u64::from(interval.1 - interval.0) + 1,
+        }
+    }
+
+    /// The space of a copy of these intervals.
+    fn counted(alloc: Global, intervals: &[(u32, u32)]) -> Result<Space, AllocError>
+        requires is_space { IsSpace intervals.now }
+        requires few { space_size intervals.now ≤ MAX_POINTS_OF_THREE }
+        ensures { IfOk result (λ s. s ≡ intervals.now) }
+    {
+        let copy = SmallVec::from_slice(alloc, intervals)?;
+        let mut ranks = SmallVec::with_capacity(alloc, intervals.len())?;
         let mut size = 0u64;
-        for interval in &intervals {
+        for interval in intervals {
             ranks.push(size as u32)?;
             size += u64::from(interval.1 - interval.0) + 1;
         }
         Ok(Space {
-            intervals,
+            intervals: copy,
             ranks,
             size,
         })
@@ -137,7 +156,7 @@ impl Space {
         ensures intervals { result.now ≡ self.now }
         ensures is_space { IsSpace self.now }
     {
-        &self.intervals
+        self.intervals.as_slice()
     }
 
     /// Whether this point is in it.
@@ -154,7 +173,9 @@ impl Space {
         ensures below { IfSome result (λ r. r < space_size self.now) }
     {
         let k = self.place_of(p)?;
-        Some(self.ranks[k] + (p - self.intervals[k].0))
+        let ranks = self.ranks.as_slice();
+        let intervals = self.intervals.as_slice();
+        Some(ranks[k] + (p - intervals[k].0))
     }
 
     /// The point that has so many points below it.
@@ -162,8 +183,10 @@ impl Space {
         requires { r < space_size self.now }
         ensures { result ≡ point_at self.now r }
     {
-        let k = count_up_to(&self.ranks, r) - 1;
-        self.intervals[k].0 + (r - self.ranks[k])
+        let ranks = self.ranks.as_slice();
+        let intervals = self.intervals.as_slice();
+        let k = count_up_to(ranks, r) - 1;
+        intervals[k].0 + (r - ranks[k])
     }
 
     /// The rank of the first point of an interval that lies in the space. The other points of the
@@ -180,14 +203,14 @@ impl Space {
     pub fn is_within(&self, other: &Space) -> bool
         ensures { IsTrue result ↔ IsWithin self.now other.now }
     {
-        covers(&other.intervals, &self.intervals)
+        covers(other.intervals(), self.intervals())
     }
 
     /// Whether some point is in both.
     pub fn meets(&self, other: &Space) -> bool
         ensures { IsTrue result ↔ Meet self.now other.now }
     {
-        meet(&self.intervals, &other.intervals)
+        meet(self.intervals(), other.intervals())
     }
 
     /// The space of the points that are in both, or None where there is none. It may have more
@@ -206,11 +229,12 @@ impl Space {
         ensures points { IfOk result (λ found. IfSome found (λ s. (p : ℕ) →
             has_point s p ≡ (has_point self.now p && has_point other.now p))) }
     {
-        let shared = overlaps(alloc, &self.intervals, &other.intervals)?;
+        let _ = self.size();
+        let shared = overlaps(alloc, self.intervals(), other.intervals())?;
         if shared.is_empty() {
             return Ok(None);
         }
-        Ok(Some(Space::counted(alloc, shared)?))
+        Ok(Some(Space::copy_of(alloc, &shared)?))
     }
 
     /// The index of the interval that has this point.
@@ -219,8 +243,9 @@ impl Space {
         ensures within { IfSome result (λ k. k < length self.now) }
         ensures has { IfSome result (HoldsAt (λ i. interval_has i p ≡ true) self.now) }
     {
-        let k = count_below(&self.intervals, p);
-        if k < self.intervals.len() && self.intervals[k].0 <= p {
+        let intervals = self.intervals();
+        let k = count_below(intervals, p);
+        if k < intervals.len() && intervals[k].0 <= p {
             Some(k)
         } else {
             None

@@ -1,5 +1,4 @@
-use Rattle.std.proofs.Common.{◌≡◌, ◌<◌, ◌^◌, ◌+◌, ◌-◌, ℕ, true, List, length, get_or, ap, ◌∙◌, arith}
-use Rattle.std.proofs.lemmas.List.{get_or_read}
+use Rattle.std.proofs.Common.{◌≡◌, ◌<◌, ◌^◌, ◌+◌, ◌-◌, ℕ, true, List, length, get_or, sym, subst, arith}
 use Rattle.std.specs.List.{HoldsAt}
 use Rattle.index_spaces.specs.Space.{interval_has, space_size, rank}
 use Rattle.index_spaces.specs.Counted.{IsCounted}
@@ -12,24 +11,35 @@ record IsRank (s : List (ℕ × ℕ)) (p sum : ℕ) : Type 0 where
   below : sum < space_size s
   fits : sum < 2 ^ 32
 
-rank_read : (s : List (ℕ × ℕ)) (ranks : List ℕ) (size p k start : ℕ) (i : ℕ × ℕ) → IsCounted s ranks size → k < length s → HoldsAt (λ i. interval_has i p ≡ true) s k →
-    start ≡ get_or ranks k start → i ≡ get_or s k i → IsRank s p (start + (p - i.0))
-rank_read s ranks size p k start i counted within has read item =
+rank_at : (s : List (ℕ × ℕ)) (ranks : List ℕ) (size p k : ℕ) → IsCounted s ranks size → k < length s → HoldsAt (λ i. interval_has i p ≡ true) s k →
+    IsRank s p (get_or ranks k 0 + (p - (get_or s k (0, 0)).0))
+rank_at s ranks size p k counted within has =
     let at = rank_in s p k counted.is_space within has in
-    let first = get_or_read ranks k start (omega (arith, counted.one_each)) read 0 ∙ counted.below k within in
-    let from = ap (λ (j : ℕ × ℕ). j.0) (get_or_read s k i within item (0, 0)) in
-    let sum : start + (p - i.0) ≡ rank s p = omega (arith, at.is_rank, first, from) in
+    let first = counted.below k within in
+    let sum : get_or ranks k 0 + (p - (get_or s k (0, 0)).0) ≡ rank s p = omega (arith, at.is_rank, first) in
     record { is_rank = sum; below = omega (arith, sum, at.below); fits = omega (arith, sum, at.below, counted.few, counted.all) }
 
-known : (c : goal.After-index-2) → IsRank c.self.inside.intervals.items c.args.p (c.index.result.now + (c.args.p - c.index-2.result.now.0))
-known c = rank_read c.self.inside.intervals.items c.self.inside.ranks.items c.self.inside.size c.args.p c.in_ok-k.k c.index.result.now c.index-2.result.now
-    c.self.invariant (rw c.self.view_is c.in_ok-k.ensures.within) (rw c.self.view_is c.in_ok-k.ensures.has) c.index.ensures c.index-2.ensures
+-- the same of the lists that are read
+rank_read : (v s xs : List (ℕ × ℕ)) (ranks rs : List ℕ) (size p k : ℕ) → s ≡ v → xs ≡ s → rs ≡ ranks → IsCounted s ranks size → k < length v → HoldsAt (λ i. interval_has i p ≡ true) v k →
+    IsRank v p (get_or rs k 0 + (p - (get_or xs k (0, 0)).0))
+rank_read v s xs ranks rs size p k e f g counted within has =
+    let at = rank_at s ranks size p k counted (subst (λ (t : List (ℕ × ℕ)). k < length t) (sym e) within) (subst (λ (t : List (ℕ × ℕ)). HoldsAt (λ i. interval_has i p ≡ true) t k) (sym e) has) in
+    subst (λ (t : List (ℕ × ℕ)). IsRank t p (get_or rs k 0 + (p - (get_or xs k (0, 0)).0))) e
+    (subst (λ (t : List (ℕ × ℕ)). IsRank s p (get_or rs k 0 + (p - (get_or t k (0, 0)).0))) (sym f)
+    (subst (λ (t : List ℕ). IsRank s p (get_or t k 0 + (p - (get_or s k (0, 0)).0))) (sym g) at))
 
 pub overflow_add-result : goal.overflow_add-result
-overflow_add-result c = let r = known c in omega (arith, r.fits)
+overflow_add-result c =
+    let r = rank_read c.args.self.now c.self.inside.intervals.items c.as_slice-intervals.result.now c.self.inside.ranks.items c.as_slice-ranks.result.now c.self.inside.size c.args.p c.in_ok-k.k
+    c.self.view_is c.as_slice-intervals.ensures c.as_slice-ranks.ensures c.self.invariant c.in_ok-k.ensures.within c.in_ok-k.ensures.has in
+    omega (arith, r.fits)
 
 pub returns-clause-rank : goal.returns-clause-rank
-returns-clause-rank c = let r = known c in rw (← c.self.view_is) r.is_rank
+returns-clause-rank c =
+    (rank_read c.args.self.now c.self.inside.intervals.items c.as_slice-intervals.result.now c.self.inside.ranks.items c.as_slice-ranks.result.now c.self.inside.size c.args.p c.in_ok-k.k
+    c.self.view_is c.as_slice-intervals.ensures c.as_slice-ranks.ensures c.self.invariant c.in_ok-k.ensures.within c.in_ok-k.ensures.has).is_rank
 
 pub returns-clause-below : goal.returns-clause-below
-returns-clause-below c = let r = known c in rw (← c.self.view_is) r.below
+returns-clause-below c =
+    (rank_read c.args.self.now c.self.inside.intervals.items c.as_slice-intervals.result.now c.self.inside.ranks.items c.as_slice-ranks.result.now c.self.inside.size c.args.p c.in_ok-k.k
+    c.self.view_is c.as_slice-intervals.ensures c.as_slice-ranks.ensures c.self.invariant c.in_ok-k.ensures.within c.in_ok-k.ensures.has).below
