@@ -6,3 +6,4 @@ pub mod RowReads
 pub mod Upgrade
 pub mod CountLaws
 pub mod CallLaws
+pub mod Digits

@@ -154,10 +154,44 @@ impl Graph {
         ensures ok { OnOk result (self.new ≡ with_decl self.old decl) }
         ensures err { OnErr result (self.new ≡ self.old) }
     {
+        let counts = self.counts_with_decl(&decl);
+        self.push_decl(decl, counts)
+    }
+
+    /// Puts a declaration at the end, before any line, where it fits; else the first reason that
+    /// refuses it, and the graph stays as it was. `NoMemory` leaves it so too.
+    pub fn offer_decl(&mut self, decl: Decl) -> Result<Option<Why>, NoMemory>
+        requires is_decl { decl_fault self.old decl ≡ None → IsDecl decl }
+        requires named { decl_fault self.old decl ≡ None → IsTrue (is_decl_named self.old.format decl) }
+        requires first { self.old.lines ≡ [] }
+        ensures fault { IfOk result (λ why. why ≡ decl_fault self.old decl) }
+        ensures added { OnOk result (decl_fault self.old decl ≡ None → self.new ≡ with_decl self.old decl) }
+        ensures stays { IfOk result (λ why. IfSome why (λ w. self.new ≡ self.old)) }
+        ensures err { OnErr result (self.new ≡ self.old) }
+    {
+        let counts = self.counts_with_decl(&decl);
+        let fault = self.decl_fault_by(&decl, &counts);
+        if fault.is_none() {
+            self.push_decl(decl, counts)?;
+        }
+        Ok(fault)
+    }
+
+    /// Puts a declaration at the end, by the quantities with it. `NoMemory` leaves the graph as it
+    /// was. In its callers, since a declaration is long and would be copied.
+    #[inline(always)]
+    fn push_decl(&mut self, decl: Decl, counts: Counts) -> Result<(), NoMemory>
+        requires is_decl { IsDecl decl }
+        requires named { IsTrue (is_decl_named self.old.format decl) }
+        requires fits { decl_fault self.old decl ≡ None }
+        requires first { self.old.lines ≡ [] }
+        requires counts { counts ≡ counts_of (with_decl self.old decl) }
+        ensures ok { OnOk result (self.new ≡ with_decl self.old decl) }
+        ensures err { OnErr result (self.new ≡ self.old) }
+    {
         let found = self.found_decl(&decl);
         let name = *decl.name();
         let place = self.decls.len() as u32;
-        let counts = self.counts_with_decl(&decl);
         reserve(&mut self.decls, 1)?;
         self.names.insert(&name, found)?;
         if let Err(error) = self.tables.add(&decl, place) {

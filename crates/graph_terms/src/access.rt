@@ -1,18 +1,20 @@
 //! What lines read and write.
 
-ghost use Rattle.std.specs.Prelude.{◌≡◌, Some, true, slice_get};
+ghost use Rattle.std.specs.Prelude.{◌≡◌, Some, None, [], ◌∷◌, true, slice_get};
+ghost use Rattle.graph_terms.specs.declared.verb.Mode.TheVariants.{Read};
 ghost use Rattle.graph_terms.specs.Table.{is_row, parts_from};
 ghost use Rattle.graph_terms.specs.Access.{access, access_in, in_format, or_write, mode_in, accesses_of, verb_accesses, kept_accesses, present};
 
 use crate::format::Format;
 use crate::table::{Parts, Place};
 use crate::verb::{Access, Mode, Verb};
+use index_spaces::Op;
 
 /// Up to three accesses, in order.
 pub type Accesses = [Option<Access>; 3];
 
-/// The accesses of a line that does this. Those of fills and copies, which are many, are not looked up
-/// in the table.
+/// The accesses of a line that does this. Those of fills, copies and reductions, which are many, are not
+/// looked up in the table.
 pub fn verb_accesses(verb: &Verb) -> Accesses
     ensures each { result ≡ kept_accesses verb.now }
     ensures present { present result ≡ verb_accesses verb.now }
@@ -23,13 +25,38 @@ pub fn verb_accesses(verb: &Verb) -> Accesses
             source,
             target,
             space,
-        } => [
-            over(source, space, Mode::Read),
-            over(target, space, Mode::Write),
-            None,
-        ],
+        } => between(source, target, space, Mode::Write),
+        Verb::Reduce {
+            op: Op::Sum,
+            source,
+            target,
+            space,
+        } => between(source, target, space, Mode::Sum),
+        Verb::Reduce {
+            op: Op::Min,
+            source,
+            target,
+            space,
+        } => between(source, target, space, Mode::Least),
+        Verb::Reduce {
+            op: Op::Max,
+            source,
+            target,
+            space,
+        } => between(source, target, space, Mode::Most),
         _ => placed_accesses(verb),
     }
+}
+
+/// The accesses of what reads one column and changes another, over one space.
+fn between(source: u32, target: u32, space: u32, mode: Mode) -> Accesses
+    ensures { result ≡ Some (access source space Read) ∷ Some (access target space mode) ∷ None ∷ [] }
+{
+    [
+        over(source, space, Mode::Read),
+        over(target, space, mode),
+        None,
+    ]
 }
 
 /// The access of a column over a space.

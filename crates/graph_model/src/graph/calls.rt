@@ -57,6 +57,7 @@ impl Graph {
 
     /// Whether one of these accesses of a call is of a column of data or over a space that is not
     /// declared.
+    #[inline(always)]
     pub(super) fn any_unknown(&self, accesses: &[Access]) -> bool
         ensures { result ≡ list_any (data_unknown self.now) accesses.now }
     {
@@ -77,6 +78,7 @@ impl Graph {
     }
 
     /// Whether one of these accesses of a call is over a space that does not lie within its column.
+    #[inline(always)]
     pub(super) fn any_outside(&self, accesses: &[Access]) -> bool
         requires { list_any (data_unknown self.now) accesses.now ≡ false }
         ensures { result ≡ list_any (data_outside self.now) accesses.now }
@@ -102,6 +104,7 @@ impl Graph {
 
     /// Whether two of these accesses of a call are of one column and meet, and may not. Of a line with
     /// too many the first ones are compared.
+    #[inline(always)]
     pub(super) fn any_clash(&self, accesses: &[Access]) -> bool
         requires { list_any (data_unknown self.now) accesses.now ≡ false }
         ensures { result ≡ repeats (accesses_clash self.now) (take MAX_COMPARED_ACCESSES accesses.now) }

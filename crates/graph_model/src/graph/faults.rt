@@ -22,10 +22,19 @@ impl Graph {
     ghost use Rattle.graph_terms.specs.Graph.{line_passes, is_user, is_phase, is_acquire, columns, space_at, column_space};
     ghost use Rattle.graph_terms.specs.Access.{verb_accesses, present};
     ghost use Rattle.graph_indexes.specs.Counts.{counts_of};
-    ghost use Rattle.graph_terms.specs.Fits.{decl_fault, line_fault, with_line, is_used, decl_unknown, verb_repeats, verb_unknown, access_unknown, line_unknown, verb_unlike, access_outside, phase_count, arrives_late};
+    ghost use Rattle.graph_terms.specs.Fits.{decl_fault, line_fault, with_decl, with_line, is_used, decl_unknown, verb_repeats, verb_unknown, access_unknown, line_unknown, verb_unlike, access_outside, phase_count, arrives_late};
 
     /// The first reason that refuses a declaration after this graph. `None` exactly where it fits.
     pub fn decl_fault(&self, decl: &Decl) -> Option<Why>
+        ensures { result ≡ decl_fault self.now decl.now }
+    {
+        let counts = self.counts_with_decl(decl);
+        self.decl_fault_by(decl, &counts)
+    }
+
+    /// The same, by the quantities with the declaration at the end.
+    pub(super) fn decl_fault_by(&self, decl: &Decl, counts: &Counts) -> Option<Why>
+        requires { counts.now ≡ counts_of (with_decl self.now decl.now) }
         ensures { result ≡ decl_fault self.now decl.now }
     {
         if self.is_used(decl.name()) || decl_repeats(decl) {
@@ -40,7 +49,7 @@ impl Graph {
         if decl_misnumbered(self.format, decl) {
             return Some(Why::Number);
         }
-        if is_large(self.format, decl) || self.counts_with_decl(decl).is_above(self.format) {
+        if is_large(self.format, decl) || counts.is_above(self.format) {
             return Some(Why::Limit);
         }
         None

@@ -79,7 +79,51 @@ impl Graph {
         word_size(b"on") + self.events_size(on.as_slice())
     }
 
+    /// The words of a verb. Those of fills, copies and reductions, which are many, are not looked up in
+    /// the table.
     fn verb_size(&self, verb: &Verb) -> u64
+        ensures size { result ≡ words_size (verb_words self.now verb.now) }
+        ensures few { result ≤ 1000000000000 }
+    {
+        match *verb {
+            Verb::Fill {
+                target,
+                space,
+                value,
+            } => {
+                word_size(b"fill")
+                    + self.column_size(target)
+                    + self.space_size(space)
+                    + number_size(value)
+            }
+            Verb::Copy {
+                source,
+                target,
+                space,
+            } => {
+                word_size(b"copy")
+                    + self.column_size(source)
+                    + self.column_size(target)
+                    + self.space_size(space)
+            }
+            Verb::Reduce {
+                op,
+                source,
+                target,
+                space,
+            } => {
+                word_size(b"reduce")
+                    + op_size(op)
+                    + self.column_size(source)
+                    + self.column_size(target)
+                    + self.space_size(space)
+            }
+            _ => self.listed_size(verb),
+        }
+    }
+
+    /// The same by the table of kinds.
+    fn listed_size(&self, verb: &Verb) -> u64
         ensures size { result ≡ words_size (verb_words self.now verb.now) }
         ensures few { result ≤ 1000000000000 }
     {

@@ -1,6 +1,6 @@
 //! How long the words of a graph's text are, each with the byte behind it.
 
-ghost use Rattle.std.specs.Prelude.{◌≡◌, ◌+◌, ◌≤◌, length, map, decimal};
+ghost use Rattle.std.specs.Prelude.{◌≡◌, ◌+◌, ◌<◌, ◌≤◌, length, map, decimal};
 ghost use Rattle.graph_terms.specs.Spelling.{comma_word, interval_word};
 
 use graph_terms::lists::NameList;
@@ -23,18 +23,36 @@ pub(crate) fn name_size(name: &Name) -> u64
     name.bytes().len() as u64 + 1
 }
 
-/// A number.
+/// A number. Most have four digits or fewer, which take no division.
 pub(crate) fn number_size(value: u64) -> u64
     ensures size { result ≡ length (decimal value) + 1 }
     ensures few { result ≤ 21 }
 {
     let mut rest = value;
     let mut size = 2;
-    while rest >= 10 {
-        rest /= 10;
-        size += 1;
+    while rest >= 10_000 {
+        rest = rest / 10 / 10 / 10 / 10;
+        size += 4;
     }
-    size
+    size + more_digits(rest)
+}
+
+/// How many digits a number of at most four has behind its first.
+#[tactic(auto, using(crate::proofs::Digits::one_digit, crate::proofs::Digits::two_digits, crate::proofs::Digits::three_digits, crate::proofs::Digits::four_digits))]
+fn more_digits(value: u64) -> u64
+    requires { value < 10000 }
+    ensures digits { result + 1 ≡ length (decimal value) }
+    ensures few { result ≤ 3 }
+{
+    if value < 10 {
+        0
+    } else if value < 100 {
+        1
+    } else if value < 1_000 {
+        2
+    } else {
+        3
+    }
 }
 
 /// Names with a comma between each two.

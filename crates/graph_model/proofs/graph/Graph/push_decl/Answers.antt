@@ -13,7 +13,7 @@ use Rattle.graph_terms.proofs.Public.{push_decl}
 use Rattle.graph_model.proofs.Naming.{names_back, names_decl, unused_decl_name}
 use Rattle.graph_model.proofs.TableLaws.{limits_decl, tables_push}
 use Rattle.graph_model.proofs.RowLaws.{rows_decl}
-use Rattle.graph_model.proofs.graph.Graph.add_decl.Goals as goal
+use Rattle.graph_model.proofs.graph.Graph.push_decl.Goals as goal
 
 pub invariant_of-self-2 : goal.invariant_of-self-2
 invariant_of-self-2 c =
@@ -37,7 +37,7 @@ invariant_of-self-2 c =
       limits = subst (λ (ds : List Decl). IsWithinLimits (record { format = g.format; decls = ds; lines = g.lines })) (sym pushed) (limits_decl g d fits);
       names = subst (λ (ds : List Decl). AreNamesOf (record { format = g.format; decls = ds; lines = g.lines }) c.insert.new.self) (sym pushed) (names_decl g d c.self.inside.names c.insert.new.self c.self.invariant.names (unused_decl_name g d fits) named_so);
       rows = subst (λ (ds : List Decl). AreRowsOf (record { format = g.format; decls = ds; lines = g.lines }) c.self.inside.rows) (sym pushed) (rows_decl g d c.self.inside.rows c.self.invariant.rows);
-      counts = c.counts_with_decl-counts.ensures ∙ (ap (λ h. counts_of (with_decl h d)) (sym c.self.view_is) ∙ ap (λ ds. counts_of (record { format = g.format; decls = ds; lines = g.lines })) (sym pushed));
+      counts = c.requires.counts ∙ (ap (λ h. counts_of (with_decl h d)) (sym c.self.view_is) ∙ ap (λ ds. counts_of (record { format = g.format; decls = ds; lines = g.lines })) (sym pushed));
     }
 
 pub invariant_of-self-in-Err : goal.invariant_of-self-in-Err
