@@ -15,6 +15,11 @@ abbrev pub is_later_in : Format → ℕ → Bool
 is_later_in Three c = is_later_byte c
 is_later_in f c = is_name_byte c
 
+-- the greatest class of the bytes of a name of a format: those of class 0 may stand in each name, those of class 1 in a name of format 3
+abbrev pub greatest_class : Format → ℕ
+greatest_class Three = 1
+greatest_class f = 0
+
 -- the most bytes of a name of a format
 abbrev pub most_bytes : Format → ℕ
 most_bytes Three = 63

@@ -38,7 +38,7 @@ ghost use Rattle.std.specs.Ordering.{nat_cmp, as_partial_cmp};
 ghost use Rattle.graph_terms.specs.declared.format.Format.TheVariants.{Three};
 ghost use Rattle.graph_terms.specs.Name.{is_name, is_name_in};
 ghost use Rattle.graph_terms.specs.NameLaws.{front_number};
-ghost use Rattle.graph_terms.specs.NameParts.{is_first_in, is_later_in, most_bytes, begins_name};
+ghost use Rattle.graph_terms.specs.NameParts.{is_first_in, is_later_in, greatest_class, most_bytes, begins_name};
 
 impl Name {
     /// The name of formats 1 and 2 of these bytes: a small letter, and up to 30 small letters, digits
@@ -167,13 +167,41 @@ fn is_first_in(format: Format, byte: u8) -> bool
     }
 }
 
+/// For each byte where it may stand in a name: in each format (0), in format 3 alone (1), in none (2).
+#[rattlefmt::skip]
+static CLASSES: [u8; 256] = [
+    2, 2, 2, 2, 2, 2, 2, 2, 2, 2, 2, 2, 2, 2, 2, 2,
+    2, 2, 2, 2, 2, 2, 2, 2, 2, 2, 2, 2, 2, 2, 2, 2,
+    2, 2, 2, 2, 2, 2, 2, 2, 2, 2, 2, 2, 2, 2, 2, 2,
+    0, 0, 0, 0, 0, 0, 0, 0, 0, 0, 2, 2, 2, 2, 2, 2,
+    2, 1, 1, 1, 1, 1, 1, 1, 1, 1, 1, 1, 1, 1, 1, 1,
+    1, 1, 1, 1, 1, 1, 1, 1, 1, 1, 1, 2, 2, 2, 2, 0,
+    2, 0, 0, 0, 0, 0, 0, 0, 0, 0, 0, 0, 0, 0, 0, 0,
+    0, 0, 0, 0, 0, 0, 0, 0, 0, 0, 0, 2, 2, 2, 2, 2,
+    2, 2, 2, 2, 2, 2, 2, 2, 2, 2, 2, 2, 2, 2, 2, 2,
+    2, 2, 2, 2, 2, 2, 2, 2, 2, 2, 2, 2, 2, 2, 2, 2,
+    2, 2, 2, 2, 2, 2, 2, 2, 2, 2, 2, 2, 2, 2, 2, 2,
+    2, 2, 2, 2, 2, 2, 2, 2, 2, 2, 2, 2, 2, 2, 2, 2,
+    2, 2, 2, 2, 2, 2, 2, 2, 2, 2, 2, 2, 2, 2, 2, 2,
+    2, 2, 2, 2, 2, 2, 2, 2, 2, 2, 2, 2, 2, 2, 2, 2,
+    2, 2, 2, 2, 2, 2, 2, 2, 2, 2, 2, 2, 2, 2, 2, 2,
+    2, 2, 2, 2, 2, 2, 2, 2, 2, 2, 2, 2, 2, 2, 2, 2,
+];
+
 /// Whether a byte may stand in a name of a format.
 fn is_later_in(format: Format, byte: u8) -> bool
     ensures { result ≡ is_later_in format byte }
 {
+    CLASSES[usize::from(byte)] <= greatest_class(format)
+}
+
+/// The greatest class of the bytes of a name of a format.
+fn greatest_class(format: Format) -> u8
+    ensures { result ≡ greatest_class format }
+{
     match format {
-        Format::Three => is_first_in(Format::Three, byte) || byte.is_ascii_digit(),
-        _ => byte.is_ascii_lowercase() || byte.is_ascii_digit() || byte == b'_',
+        Format::Three => 1,
+        _ => 0,
     }
 }
 
