@@ -31,5 +31,11 @@ pub last_by : {E : Type 0} {P Q : Type 0} (r : Result (Unit {0}) E) → (P → Q
 last_by (Ok x) f h = f h
 last_by (Err e) f h = tt
 
+-- two tests that follow from each other
+pub same_test : (a b : Bool) → (a ≡ true → b ≡ true) → (b ≡ true → a ≡ true) → a ≡ b
+same_test true b f g = sym (f refl)
+same_test false true f g = g refl
+same_test false false f g = refl
+
 pub both_not : (a b : Bool) → a ≡ false → b ≡ false → (a || b) ≡ false
 both_not a b e f = ap (λ x. x || b) e ∙ f

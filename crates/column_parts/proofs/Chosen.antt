@@ -4,7 +4,7 @@ use Rattle.std.specs.Prelude.{Option, Some, None, Contains, slice_get, slice_set
 use Rattle.std.specs.Global.{Global}
 use Rattle.std.specs.Option.{option_map_or}
 use Rattle.std.proofs.lemmas.Bool.{cases_lt, cases_eq}
-use Rattle.std.proofs.lemmas.Option.{none-some, same_Some, slice_get-get_or}
+use Rattle.std.proofs.lemmas.Option.{none-some, same_Some, slice_get-get_or, slice_get-map}
 use Rattle.std.proofs.lemmas.List.{length-map, length-set}
 use Rattle.std.proofs.lemmas.Grind.{flat_map-append}
 use Rattle.basics.proofs.ListFacts.{got_contains, contains_none, set_get, set_get_other}
@@ -27,21 +27,16 @@ abbrev Lists : Type 0
 Lists = List (Vec Part Global)
 
 -- LISTS
-got_map : {X Y : Type 0} (f : X → Y) (xs : List X) (k : ℕ) → slice_get (map f xs) k ≡ option_map f (slice_get xs k)
-got_map f [] k = refl
-got_map f (x ∷ xs) zero = refl
-got_map f (x ∷ xs) (suc k) = got_map f xs k
-
 -- the list that spaces are of
 list_of : (g : GraphValue) (lists : Lists) (c : ℕ) (ts : Unions) → slice_get (spaces_of g lists) c ≡ Some ts → (v : Vec Part Global) × (slice_get lists c ≡ Some v) × (spaces g v.items ≡ ts)
-list_of g lists c ts at = by_list (slice_get lists c) refl (sym (got_map (λ (v : Vec Part Global). spaces g v.items) lists c) ∙ at)
+list_of g lists c ts at = by_list (slice_get lists c) refl (sym (slice_get-map (λ (v : Vec Part Global). spaces g v.items) lists c) ∙ at)
   where
     by_list : (o : Option (Vec Part Global)) → slice_get lists c ≡ o → option_map (λ (v : Vec Part Global). spaces g v.items) o ≡ Some ts → (v : Vec Part Global) × (slice_get lists c ≡ Some v) × (spaces g v.items ≡ ts)
     by_list None e f = absurd (none-some ts f)
     by_list (Some v) e f = (v, e, same_Some (spaces g v.items) ts f)
 
 spaces_got : (g : GraphValue) (lists : Lists) (c : ℕ) (v : Vec Part Global) → slice_get lists c ≡ Some v → slice_get (spaces_of g lists) c ≡ Some (spaces g v.items)
-spaces_got g lists c v at = got_map (λ (v : Vec Part Global). spaces g v.items) lists c ∙ ap (option_map (λ (v : Vec Part Global). spaces g v.items)) at
+spaces_got g lists c v at = slice_get-map (λ (v : Vec Part Global). spaces g v.items) lists c ∙ ap (option_map (λ (v : Vec Part Global). spaces g v.items)) at
 
 -- one more list without parts
 pub none_more : (lists : Lists) (v : Vec Part Global) → v.items ≡ [] → ((c : ℕ) (x : Vec Part Global) → slice_get lists c ≡ Some x → x.items ≡ []) → (c : ℕ) (x : Vec Part Global) → slice_get (lists ++ v ∷ []) c ≡ Some x → x.items ≡ []

@@ -4,7 +4,7 @@ use Rattle.std.specs.Prelude.{◌==◌, Some, Contains, filter, nat_lt, slice_ge
 use Rattle.std.specs.List.{list_any, list_all}
 use Rattle.std.proofs.lemmas.Bool.{both_ways, and_parts, and_from, eqb-true, ltb-true, ltb-false, lt-ltb, le-ltb, not-true, not_from_false, false_from_ne_true, true_from_ne_false, cond-true, cond-false, cases_Bool, or_cases, or_left, or_right, or_from}
 use Rattle.std.proofs.lemmas.Option.{none-some, same_Some, slice_get-get_or}
-use Rattle.std.proofs.lemmas.List.{length-map}
+use Rattle.std.proofs.lemmas.List.{length-map, map-append}
 use Rattle.std.proofs.lemmas.List.Elements.{Contains-get_or, Contains-append_left, Contains-push, Contains-push_cases}
 use Rattle.basics.proofs.ListFacts.{contains_here, contains_there, contains_none, contains_one, contains_cases, got_contains, contains_filter, filter_contains, contains_map, map_contains, some_passes, passes_some}
 use Rattle.basics.proofs.TestedLists.{any_map}
@@ -284,10 +284,6 @@ map_filter f k (x ∷ xs) = by_test (k (f x)) (map_filter f k xs)
     by_test true e = ap (λ ys. f x ∷ ys) e
     by_test false e = e
 
-map_push : (f : Part → Space) (xs : List Part) (y : Part) → map f (xs ++ y ∷ []) ≡ map f xs ++ f y ∷ []
-map_push f [] y = refl
-map_push f (x ∷ xs) y = ap (λ ys. f x ∷ ys) (map_push f xs y)
-
 module _ (g : GraphValue) (t : Space) where
   pub is_within : (parts : List Part) → is_covered g parts t ≡ true → LiesInSome (spaces g parts) t
   is_within parts h =
@@ -303,7 +299,7 @@ module _ (g : GraphValue) (t : Space) where
       both_ways (is_covered g parts t) h (passes_some (covers g t) parts x.0 x.1 (covers_by x.0 space (subst (IsWithin t) (sym x.2) w)))
 
   spaces_in_place : (parts : List Part) (x : Part) → spaces g (in_place g parts t x) ≡ filter (λ y. not (touches t y)) (spaces g parts) ++ part_space g x ∷ []
-  spaces_in_place parts x = map_push (part_space g) (filter (λ y. not (meets g t y)) parts) x ∙ ap (λ ys. ys ++ part_space g x ∷ []) (map_filter (part_space g) (λ y. not (touches t y)) parts)
+  spaces_in_place parts x = map-append (part_space g) (filter (λ y. not (meets g t y)) parts) (x ∷ []) ∙ ap (λ ys. ys ++ part_space g x ∷ []) (map_filter (part_space g) (λ y. not (touches t y)) parts)
 
 few_spaces : (g : GraphValue) (parts : List Part) (w : Part) → spaces g (few_or parts w) ≡ few_of (spaces g parts) (part_space g w)
 few_spaces g parts w = by_test (nat_lt MAX_COLUMN_PIECES (length parts)) ∙ ap (λ n. cond (nat_lt MAX_COLUMN_PIECES n) (part_space g w ∷ []) (spaces g parts)) (sym (length-map parts (part_space g)))

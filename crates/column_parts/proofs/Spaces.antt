@@ -8,6 +8,7 @@ use Rattle.std.proofs.lemmas.Option.{slice_get_past}
 use Rattle.std.proofs.lemmas.List.Elements.{Contains-get_or}
 use Rattle.basics.proofs.ListFacts.{passes_each, fails_some, some_passes, passes_some}
 use Rattle.basics.proofs.ListParts.{got_beyond}
+use Rattle.basics.proofs.Choices.{same_test}
 use Rattle.index_spaces.specs.Space.{interval_has, has_point, points, point_at, IsSpace, IsWithin, Meet}
 use Rattle.index_spaces.proofs.Public.{points_are_listed}
 use Rattle.graph_terms.specs.declared.decl.ColumnInfo.{ColumnInfo}
@@ -28,11 +29,6 @@ pub meet_any : (s t : List (ℕ × ℕ)) → Meet s t → list_any (has_point t)
 meet_any s t m = passes_some (has_point t) (points s) m.0 ((points_are_listed s m.0).1 m.1) m.2
 
 -- what the code of spaces tells is what points tell
-same_test : (a b : Bool) → (a ≡ true → b ≡ true) → (b ≡ true → a ≡ true) → a ≡ b
-same_test true b f h = sym (f refl)
-same_test false true f h = h refl
-same_test false false f h = refl
-
 pub within_told : (s t : List (ℕ × ℕ)) (b : Bool) → IsTrue b ↔ IsWithin s t → b ≡ list_all (has_point t) (points s)
 within_told s t b both = same_test b (list_all (has_point t) (points s)) (λ e. within_all s t (both.0 e)) (λ e. both.1 (all_within s t e))
 

@@ -10,6 +10,7 @@ use Rattle.std.proofs.lemmas.List.Quantifiers.{position-Some}
 use Rattle.std.proofs.lemmas.Iterator.Adapters.{position_from-zero}
 use Rattle.std.proofs.lemmas.Grind.{flat_map-append}
 use Rattle.basics.proofs.ListFacts.{contains_here, contains_there, find_is, find_none}
+use Rattle.basics.proofs.Choices.{same_test}
 use Rattle.index_spaces.specs.Space.{has_point, points, point_at}
 use Rattle.index_spaces.proofs.Public.{points_are_listed}
 use Rattle.graph_terms.specs.declared.decl.Decl.{Decl}
@@ -127,11 +128,6 @@ position_same s t (x ∷ xs) k h =
 
 positions_same : {X : Type 0} (s t : X → Bool) (xs : List X) → ((x : X) → Contains xs x → s x ≡ t x) → position s xs ≡ position t xs
 positions_same s t xs h = position_from-zero s xs ∙ (position_same s t xs 0 h ∙ sym (position_from-zero t xs))
-
-same_test : (b d : Bool) → (b ≡ true → d ≡ true) → (d ≡ true → b ≡ true) → b ≡ d
-same_test true d f h = sym (f refl)
-same_test false true f h = h refl
-same_test false false f h = refl
 
 abbrev no_piece : Piece
 no_piece = record { column = 0; space = 0 }

@@ -5,7 +5,7 @@ use Rattle.std.specs.Global.{Global}
 use Rattle.std.specs.Option.{option_map_or}
 use Rattle.std.specs.List.{list_any, position_from}
 use Rattle.std.proofs.lemmas.Bool.{both_ways, and_parts, and_from, cases_lt, cases_eq, ltb-true, ltb-false, lt-ltb, le-ltb, eq-eqb, eqb-true, false_from_ne_true}
-use Rattle.std.proofs.lemmas.Option.{none-some, same_Some, slice_get-get_or, slice_get_past}
+use Rattle.std.proofs.lemmas.Option.{none-some, same_Some, slice_get-get_or, slice_get_past, slice_get-map}
 use Rattle.std.proofs.lemmas.List.{take_all, length-map}
 use Rattle.std.proofs.lemmas.List.Elements.{Contains-append_left, Contains-append_right, Contains-append_cases, Contains-get_or}
 use Rattle.std.proofs.lemmas.List.Quantifiers.{position-Some}
@@ -31,7 +31,6 @@ use Rattle.piece_graphs.specs.Naming.{place_of}
 use Rattle.piece_graphs.specs.Numbered.{all_pieces, start_of, has_two, AreStarts, AreColumns}
 use Rattle.piece_graphs.specs.declared.numbered.ColumnPieces.{ColumnPieces}
 use Rattle.piece_graphs.proofs.Naming.{some_place}
-use Rattle.piece_graphs.proofs.Owned.{got_map}
 
 abbrev Lists : Type 0
 Lists = List (Vec Piece Global)
@@ -191,7 +190,7 @@ module _ (g : GraphValue) (us : Unions) (lists : Lists) (fits : IsGraph g) (are 
 
   -- the pieces of a column
   found_at : (c : ℕ) (v : Vec Piece Global) → slice_get lists c ≡ Some v → IsFound g c (own_spaces g us v.items)
-  found_at c v at = are.found.lists.each c (own_spaces g us v.items) (got_map (λ (w : Vec Piece Global). own_spaces g us w.items) lists c ∙ ap (option_map (λ (w : Vec Piece Global). own_spaces g us w.items)) at)
+  found_at c v at = are.found.lists.each c (own_spaces g us v.items) (slice_get-map (λ (w : Vec Piece Global). own_spaces g us w.items) lists c ∙ ap (option_map (λ (w : Vec Piece Global). own_spaces g us w.items)) at)
 
   once_at : (c : ℕ) (v : Vec Piece Global) → slice_get lists c ≡ Some v → AreOnce v.items
   once_at c v at = once_of g us v.items (found_at c v at).apart (λ x k. part_point g c (own_spaces g us v.items) (over g us x) fits (found_at c v at) (contains_map (over g us) v.items x k))
@@ -247,7 +246,7 @@ module _ (g : GraphValue) (us : Unions) (lists : Lists) (fits : IsGraph g) (are 
   all_found = record {
     covers = λ i a k.
         let cover : IsCovered (piece_spaces g us lists) a.column (space_at g a.space) = are.found.covers i (known i a k (cases_lt i (length g.lines))) a k in
-        let v = list_of a.column cover.0 (slice_get lists a.column) refl (sym (got_map (λ (w : Vec Piece Global). own_spaces g us w.items) lists a.column) ∙ cover.1) in
+        let v = list_of a.column cover.0 (slice_get lists a.column) refl (sym (slice_get-map (λ (w : Vec Piece Global). own_spaces g us w.items) lists a.column) ∙ cover.1) in
         let x = map_contains (over g us) v.0.items cover.2.0 (subst (λ ts. Contains ts cover.2.0) (sym v.2) cover.2.1) in
         (x.0, in_all lists a.column v.0 x.0 v.1 x.1, are.own a.column v.0 x.0 v.1 x.1, subst (IsWithin (space_at g a.space)) (sym x.2) cover.2.2);
     apart = λ x y c p kx ky hx hy.
@@ -352,7 +351,7 @@ all_numbered lists k starts start have all = record { count = have.count ∙ all
 -- THE PIECE OF A SPACE
 pub apart_at : (g : GraphValue) (us : Unions) (lists : Lists) → AreOwnPieces g us lists → (c : ℕ) (v : Vec Piece Global) → slice_get lists c ≡ Some v → AreApart (own_spaces g us v.items)
 apart_at g us lists are c v at =
-    (are.found.lists.each c (own_spaces g us v.items) (got_map (λ (w : Vec Piece Global). own_spaces g us w.items) lists c ∙ ap (option_map (λ (w : Vec Piece Global). own_spaces g us w.items)) at)).apart
+    (are.found.lists.each c (own_spaces g us v.items) (slice_get-map (λ (w : Vec Piece Global). own_spaces g us w.items) lists c ∙ ap (option_map (λ (w : Vec Piece Global). own_spaces g us w.items)) at)).apart
 
 -- the number of a piece by its place among those of its column
 pub number_of : (g : GraphValue) (x : ColumnPieces) (c p : ℕ) (v : Vec Piece Global) (s : ℕ) → AreColumns g x → slice_get x.lists.items c ≡ Some v → slice_get x.starts.items c ≡ Some s → (k : ℕ) → Some k ≡ position (has_cell g x.unions.items c p) v.items →
@@ -392,7 +391,7 @@ space_place g us c s xs apart owns known space k at =
     let h = position-Some (has_cell g us c p) xs j.0 no_piece j.1 in
     let y = get_or xs j.0 no_piece in
     let got : (i : ℕ) → i < length xs → slice_get (own_spaces g us xs) i ≡ Some (over g us (get_or xs i no_piece)) = λ (i : ℕ) (below : i < length xs).
-    got_map (over g us) xs i ∙ ap (option_map (over g us)) (slice_get-get_or xs i no_piece below) in
+    slice_get-map (over g us) xs i ∙ ap (option_map (over g us)) (slice_get-get_or xs i no_piece below) in
     let place : k ≡ j.0 = one_place (own_spaces g us xs) k j.0 (over g us x) (over g us y) apart (got k f.0) (got j.0 h.0) (p, cell_point g us c p x hx, cell_point g us c p y h.1) in
     ap (λ n. Some n) place ∙ sym j.1
 

@@ -4,7 +4,8 @@ use Rattle.std.specs.Prelude.{Option, Some, None, Contains, slice_get, option_ma
 use Rattle.std.specs.Global.{Global}
 use Rattle.std.specs.Option.{option_map_or}
 use Rattle.std.proofs.lemmas.Bool.{cases_lt, le-ltb, cond-false}
-use Rattle.std.proofs.lemmas.Option.{none-some, same_Some, slice_get-get_or}
+use Rattle.std.proofs.lemmas.Option.{none-some, same_Some, slice_get-get_or, slice_get-map}
+use Rattle.std.proofs.lemmas.List.{map-append}
 use Rattle.std.proofs.lemmas.List.Elements.{Contains-append_left, Contains-push, Contains-push_cases}
 use Rattle.basics.proofs.ListFacts.{contains_none, contains_map, got_contains, got_in, got_behind}
 use Rattle.basics.proofs.ListParts.{take_more, take_whole, got_cases}
@@ -20,15 +21,6 @@ use Rattle.column_parts.proofs.Public.{declared_by, part_point}
 use Rattle.index_spaces.specs.Space.{IsSpace}
 use Rattle.piece_graphs.specs.Uncut.{AreSpaces}
 use Rattle.piece_graphs.specs.Over.{IsPieceOf, own_spaces, piece_spaces, AreOver, AreOwnPieces}
-
-map_push : {X Y : Type 0} (f : X → Y) (xs : List X) (y : X) → map f (xs ++ y ∷ []) ≡ map f xs ++ f y ∷ []
-map_push f [] y = refl
-map_push f (x ∷ xs) y = ap (λ ys. f x ∷ ys) (map_push f xs y)
-
-pub got_map : {X Y : Type 0} (f : X → Y) (xs : List X) (k : ℕ) → slice_get (map f xs) k ≡ option_map f (slice_get xs k)
-got_map f [] k = refl
-got_map f (x ∷ xs) zero = refl
-got_map f (x ∷ xs) (suc k) = got_map f xs k
 
 -- the space of a union
 union_numbered : (g : GraphValue) (us later : Unions) (t : List (ℕ × ℕ)) → piece_space g (us ++ t ∷ later) (length (named_spaces g) + length us) ≡ t
@@ -58,10 +50,10 @@ one_over : (g : GraphValue) (c : ℕ) (parts : List Part) (part : Part) (base us
     IsPieceOf (length (named_spaces g)) c part us new x → AreOver g c (parts ++ part ∷ []) base new (pieces ++ x ∷ [])
 one_over g c parts (Declared s) base us new pieces x over known is = record {
   spaces_are = λ later.
-      map_push (λ (y : Piece). piece_space g (new ++ later) y.space) pieces x
+      map-append (λ (y : Piece). piece_space g (new ++ later) y.space) pieces (x ∷ [])
       ∙ (ap (λ ys. ys ++ piece_space g (new ++ later) x.space ∷ []) (ap (λ vs. own_spaces g (vs ++ later) pieces) is.0 ∙ over.spaces_are later)
       ∙ (ap (λ t. spaces g parts ++ t ∷ []) (ap (λ (y : Piece). piece_space g (new ++ later) y.space) is.1 ∙ spaces_keep_numbers g (new ++ later) s (known s refl))
-      ∙ sym (map_push (part_space g) parts (Declared s))));
+      ∙ sym (map-append (part_space g) parts (Declared s ∷ []))));
   own = own_more c pieces x over.own (ap (λ (y : Piece). y.column) is.1);
   used = λ k low high. let y = over.used k low (subst (λ vs. k < length vs) is.0 high) in (y.0, Contains-append_left pieces (x ∷ []) y.0 y.1, y.2);
   grown = (over.grown.0, is.0 ∙ over.grown.1);
@@ -70,10 +62,10 @@ one_over g c parts (Declared s) base us new pieces x over known is = record {
 one_over g c parts (Union t) base us new pieces x over known is = record {
   spaces_are = λ later.
       let longer : new ++ later ≡ us ++ (t ∷ later) = ap (λ vs. vs ++ later) is.0 ∙ append_assoc us (t ∷ []) later in
-      map_push (λ (y : Piece). piece_space g (new ++ later) y.space) pieces x
+      map-append (λ (y : Piece). piece_space g (new ++ later) y.space) pieces (x ∷ [])
       ∙ (ap (λ ys. ys ++ piece_space g (new ++ later) x.space ∷ []) (ap (λ vs. own_spaces g vs pieces) longer ∙ over.spaces_are (t ∷ later))
       ∙ (ap (λ v. spaces g parts ++ v ∷ []) (ap (λ (y : Piece). piece_space g (new ++ later) y.space) is.1 ∙ (ap (λ vs. piece_space g vs (length (named_spaces g) + length us)) longer ∙ union_numbered g us later t))
-      ∙ sym (map_push (part_space g) parts (Union t))));
+      ∙ sym (map-append (part_space g) parts (Union t ∷ []))));
   own = own_more c pieces x over.own (ap (λ (y : Piece). y.column) is.1);
   used = λ k low high. by_place k low (subst (λ vs. k < length vs) is.0 high) (cases_lt k (length us));
   grown = (over.grown.0 ++ t ∷ [], is.0 ∙ (ap (λ vs. vs ++ t ∷ []) over.grown.1 ∙ append_assoc base over.grown.0 (t ∷ [])));
@@ -130,10 +122,10 @@ one_first g parts p us new lists v c is first over = record {
   number = length-append lists (v ∷ []) ∙ (ap (λ n. n + 1) first.number ∙ sym (length-append parts (p ∷ [])));
   spaces_are = λ later.
       let longer : new ++ later ≡ us ++ (over.grown.0 ++ later) = ap (λ vs. vs ++ later) over.grown.1 ∙ append_assoc us over.grown.0 later in
-      map_push (λ (w : Vec Piece Global). own_spaces g (new ++ later) w.items) lists v
+      map-append (λ (w : Vec Piece Global). own_spaces g (new ++ later) w.items) lists (v ∷ [])
       ∙ (ap (λ ys. ys ++ own_spaces g (new ++ later) v.items ∷ []) (ap (λ vs. piece_spaces g vs lists) longer ∙ first.spaces_are (over.grown.0 ++ later))
       ∙ (ap (λ t. spaces_of g parts ++ t ∷ []) (over.spaces_are later)
-      ∙ sym (map_push (λ (w : Vec Part Global). spaces g w.items) parts p)));
+      ∙ sym (map-append (λ (w : Vec Part Global). spaces g w.items) parts (p ∷ []))));
   own = λ d w x at k. elim (got_cases lists v d w at) [
     | inl early ↦ first.own d w x early.1 k
     | inr last ↦ over.own x (subst (λ (u : Vec Piece Global). Contains u.items x) (sym last.1) k) ∙ (is ∙ (sym first.number ∙ sym last.0))
@@ -171,6 +163,6 @@ all_first g parts k us lists past found first = record {
 -- the spaces that parts are over are declared
 pub known_parts : (g : GraphValue) → IsGraph g → (parts : Parts) → AreLists g (spaces_of g parts) → (c : ℕ) (p : Vec Part Global) → slice_get parts c ≡ Some p → (s : ℕ) → Contains p.items (Declared s) → s < length (named_spaces g)
 known_parts g fits parts are c p at s k =
-    let is : IsFound g c (spaces g p.items) = are.each c (spaces g p.items) (got_map (λ (v : Vec Part Global). spaces g v.items) parts c ∙ ap (option_map (λ (v : Vec Part Global). spaces g v.items)) at) in
+    let is : IsFound g c (spaces g p.items) = are.each c (spaces g p.items) (slice_get-map (λ (v : Vec Part Global). spaces g v.items) parts c ∙ ap (option_map (λ (v : Vec Part Global). spaces g v.items)) at) in
     let q = part_point g c (spaces g p.items) (space_at g s) fits is (contains_map (part_space g) p.items (Declared s) k) in
     declared_by g s q.0 q.1

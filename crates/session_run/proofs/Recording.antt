@@ -93,9 +93,6 @@ pub at_end : {X : Type 0} (xs : List X) (x d : X) → slice_index_or (xs ++ x �
 at_end [] x d = refl
 at_end (y ∷ xs) x d = at_end xs x d
 
-pub map_push : {X Y : Type 0} (f : X → Y) (xs : List X) (x : X) → map f (xs ++ x ∷ []) ≡ map f xs ++ f x ∷ []
-map_push f xs x = map-append f xs (x ∷ [])
-
 pub push_cases : {X : Type 0} (xs : List X) (x y : X) → Contains (xs ++ x ∷ []) y → Contains xs y ⊎ (x ≡ y)
 push_cases xs x y h = ⊎_elim (λ a. inl a) (λ b. inr (only_one b)) (Contains-append_cases xs (x ∷ []) y h)
   where
@@ -113,11 +110,11 @@ pub one_more : (r : Running) (rec : Recorder) (graphs : Vec RanGraph Global) (x 
 one_more r rec graphs x s o few is e more = record {
   recorder = is;
   few = omega (arith, ap length more, length-append r.graphs.items (x ∷ []), map_length linked_of r.graphs.items, few);
-  ends = ap (map (map end_in)) e.added ∙ (map_push (map end_in) (recorded_by r.recorder).graphs e.lines
+  ends = ap (map (map end_in)) e.added ∙ (map-append (map end_in) (recorded_by r.recorder).graphs (e.lines ∷ [])
       ∙ (ap (λ l. map (map end_in) (recorded_by r.recorder).graphs ++ l ∷ []) (e.ended ∙ ap (λ (y : Outcome). y.ends) o)
-      ∙ (ap (λ ls. ls ++ ran_ends x ∷ []) s.ends ∙ (sym (map_push ran_ends r.graphs.items x) ∙ ap (map ran_ends) (sym more)))));
-  handles = ap (map (map handle_in)) e.added ∙ (map_push (map handle_in) (recorded_by r.recorder).graphs e.lines
+      ∙ (ap (λ ls. ls ++ ran_ends x ∷ []) s.ends ∙ (sym (map-append ran_ends r.graphs.items (x ∷ [])) ∙ ap (map ran_ends) (sym more)))));
+  handles = ap (map (map handle_in)) e.added ∙ (map-append (map handle_in) (recorded_by r.recorder).graphs (e.lines ∷ [])
       ∙ (ap (λ l. map (map handle_in) (recorded_by r.recorder).graphs ++ l ∷ []) (sym e.handles)
-      ∙ (ap (λ ls. ls ++ x.handles ∷ []) s.handles ∙ (sym (map_push (λ (y : RanGraph). y.handles) r.graphs.items x) ∙ ap (map (λ (y : RanGraph). y.handles)) (sym more)))));
+      ∙ (ap (λ ls. ls ++ x.handles ∷ []) s.handles ∙ (sym (map-append (λ (y : RanGraph). y.handles) r.graphs.items (x ∷ [])) ∙ ap (map (λ (y : RanGraph). y.handles)) (sym more)))));
   outcomes = λ y h. ⊎_elim (λ a. s.outcomes y a) (λ b. subst (λ (z : RanGraph). IsOutcome z.checked.graph z.outcome) b o) (push_cases r.graphs.items x y (subst (λ ys. Contains ys y) more h));
 }

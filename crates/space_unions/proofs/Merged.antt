@@ -4,6 +4,7 @@ use Rattle.std.proofs.lemmas.Bool.{false≢true}
 use Rattle.std.proofs.lemmas.Bool.Decides.{nat_tests}
 use Rattle.std.proofs.lemmas.List.{drop_more, drop_all}
 use Rattle.std.proofs.lemmas.List.Folds.{list_any-append}
+use Rattle.std.proofs.Math.Bool.{or_assoc}
 use Rattle.index_spaces.specs.Space.{interval_has, has_point, AscendAbove, IsSpace}
 use Rattle.space_unions.specs.Ascending.{AscendTo, IsNext, Absorbs}
 
@@ -55,12 +56,8 @@ joined_has i j p u l m = grind (arith, nat_tests)
 pub after_push : (s : List (ℕ × ℕ)) (i j : ℕ × ℕ) (p : ℕ) → (has_point (s ++ i ∷ []) p || interval_has j p) ≡ ((has_point s p || interval_has i p) || interval_has j p)
 after_push s i j p = ap (λ b. b || interval_has j p) (has_push s i p)
 
-or_assoc : (a b c : Bool) → (a || (b || c)) ≡ ((a || b) || c)
-or_assoc true b c = refl
-or_assoc false b c = refl
-
 pub after_joined : (s : List (ℕ × ℕ)) (i j : ℕ × ℕ) (p : ℕ) → i.0 ≤ i.1 → i.0 ≤ j.0 → j.0 ≤ i.1 + 1 → (has_point s p || interval_has (i.0, max i.1 j.1) p) ≡ ((has_point s p || interval_has i p) || interval_has j p)
-after_joined s i j p u l m = ap (λ b. has_point s p || b) (joined_has i j p u l m) ∙ or_assoc (has_point s p) (interval_has i p) (interval_has j p)
+after_joined s i j p u l m = ap (λ b. has_point s p || b) (joined_has i j p u l m) ∙ sym (or_assoc (has_point s p) (interval_has i p) (interval_has j p))
 
 -- the next interval, taken from the first list
 or_taken : (w x i r u n : Bool) → w ≡ (x || ((i || r) || u)) → n ≡ (x || i) → w ≡ (n || (r || u))

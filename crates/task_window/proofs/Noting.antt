@@ -5,6 +5,7 @@ use Rattle.std.specs.List.{list_any}
 use Rattle.std.proofs.lemmas.Bool.{cases_lt, cases_eq, lt-ltb, le-ltb, le-leb, lt-leb, and_from, or_right, and_parts, ltb-true}
 use Rattle.std.proofs.lemmas.List.{length_push, length-set, get_or-set_same, get_or-set_other, get_or_append_left, get_or_push, get_or_past, take_all, take-append-le, drop-append-le, length-drop, length-append, get_or_default}
 use Rattle.std.proofs.lemmas.List.Sums.{sum_by_push, sum_by-cons}
+use Rattle.std.proofs.Math.Bool.{or_assoc}
 use Rattle.basics.proofs.ListFacts.{some_passes}
 use Rattle.task_order.specs.declared.access.Access.{Access}
 use Rattle.task_order.specs.Tasks.{covers, uses, changes, accesses_of}
@@ -111,11 +112,7 @@ any_end t [] x = or_false (t x)
     or_false : (b : Bool) → (b || false) ≡ b
     or_false true = refl
     or_false false = refl
-any_end t (y ∷ ys) x = ap (λ b. t y || b) (any_end t ys x) ∙ or_assoc (t y) (list_any t ys) (t x)
-  where
-    or_assoc : (a b c : Bool) → (a || (b || c)) ≡ ((a || b) || c)
-    or_assoc true b c = refl
-    or_assoc false b c = refl
+any_end t (y ∷ ys) x = ap (λ b. t y || b) (any_end t ys x) ∙ sym (or_assoc (t y) (list_any t ys) (t x))
 
 abbrev pub part : ℕ → ℕ → Bool → Access
 part first count writes = record { first = first; count = count; writes = writes }

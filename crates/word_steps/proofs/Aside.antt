@@ -2,6 +2,7 @@
 use Rattle.std.proofs.Common.{◌≡◌, ℕ, zero, suc, ◌+◌, ◌<◌, Bool, true, false, inl, inr, List, [], ◌∷◌, ◌++◌, length, refl, sym, ◌∙◌, ap, ⊎_elim}
 use Rattle.std.specs.Prelude.{Option, Some, None, slice_index_or, slice_set}
 use Rattle.std.proofs.lemmas.Bool.{true≢false, cases_eq}
+use Rattle.basics.proofs.Choices.{same_test}
 use Rattle.index_spaces.specs.declared.Op.{Op}
 use Rattle.graph_terms.specs.declared.outcome.End.{End}
 use Rattle.graph_terms.specs.Graph.{GraphValue, columns}
@@ -102,13 +103,6 @@ other_set (y ∷ ys) d zero zero x n = absurd (n refl)
 other_set (y ∷ ys) d zero (suc k) x n = refl
 other_set (y ∷ ys) d (suc i) zero x n = refl
 other_set (y ∷ ys) d (suc i) (suc k) x n = other_set ys d i k x (λ e. n (ap suc e))
-
--- two tests that follow from each other
-pub same_test : (a b : Bool) → (a ≡ true → b ≡ true) → (b ≡ true → a ≡ true) → a ≡ b
-same_test true true f g = refl
-same_test true false f g = sym (f refl)
-same_test false true f g = g refl
-same_test false false f g = refl
 
 pub listed_beside : (i j : ℕ) (ks : List ℕ) → (j ≡ i → ⊥) → is_listed (i ∷ ks) j ≡ is_listed ks j
 listed_beside i j ks n = same_test (is_listed (i ∷ ks) j) (is_listed ks j) (λ h. elim (listed_cases i j ks h) [ inl e ↦ absurd (n e) | inr r ↦ r ]) (listed_there i j ks)
