@@ -4,7 +4,8 @@ use Rattle.std.specs.Prelude.{Option, Some, None, Contains, option_map, slice_ge
 use Rattle.std.specs.Option.{option_map_or}
 use Rattle.std.specs.List.{position_from, cons_option}
 use Rattle.std.proofs.lemmas.Bool.{true≢false, cases_eq, cases_lt, and_parts, and_from, eq-eqb, eqb-true, lt-ltb, le-ltb, cond-true, cond-false}
-use Rattle.std.proofs.lemmas.Option.{none-some, same_Some, slice_get-get_or, slice_get_past}
+use Rattle.std.proofs.lemmas.Option.{none-some, same_Some, slice_get-get_or, slice_get_past, slice_get-map}
+use Rattle.std.proofs.lemmas.List.{length-map}
 use Rattle.std.proofs.lemmas.List.Elements.{filter_map-append, Contains-get_or}
 use Rattle.std.proofs.lemmas.List.Quantifiers.{position-Some}
 use Rattle.std.proofs.lemmas.Iterator.Adapters.{position_from-zero}
@@ -22,7 +23,7 @@ use Rattle.graph_terms.specs.Graph.{GraphValue, space_of, barrier_of, columns_of
 use Rattle.graph_terms.specs.Access.{accesses}
 use Rattle.graph_meaning.proofs.Public.{columns_differ, all_accesses_fit}
 use Rattle.column_pieces.specs.Cut.{IsCut}
-use Rattle.column_pieces.specs.Pieces.{Unions, piece_space, has_cell, piece_at, column_at, cut_of, union_decls, piece_decls, is_kept, graph_of_pieces, ArePieces}
+use Rattle.column_pieces.specs.Pieces.{Unions, piece_space, has_cell, piece_at, column_at, cut_of, union_decls, piece_name, piece_decl, with_piece, piece_decls, is_kept, graph_of_pieces, ArePieces}
 use Rattle.column_pieces.specs.declared.pieces.Piece.{Piece}
 use Rattle.column_pieces.specs.Laws.{PiecesCut, PiecesKeepSpaces, SpacesKeepNumbers, ColumnsArePieces}
 
@@ -39,9 +40,21 @@ union_items : {X : Type 0} (f : Decl → Option X) → ((n : List ℕ) (t : List
 union_items f h k [] = refl
 union_items f h k (u ∷ us) = ap (λ o. cons_option o (filter_map f (union_decls (k + 1) us))) (h _ _) ∙ union_items f h (k + 1) us
 
+none_of_one : {X : Type 0} (f : Decl → Option X) → ((n : List ℕ) (s : ℕ) (fs : List (List ℕ)) → f (Inst n s fs) ≡ None) → (k : ℕ) (x : Piece) (ds : List Decl) → filter_map f (with_piece k x ds) ≡ filter_map f ds
+none_of_one f h k x [] = ap (λ o. cons_option o []) (h _ _ _)
+none_of_one f h k x (Inst n s fs ∷ ds) = by (x.space == s)
+  where
+    by : (b : Bool) → filter_map f (cond b (piece_decl k x.space fs ∷ ds) (piece_decl k x.space [] ∷ Inst n s fs ∷ ds)) ≡ filter_map f (Inst n s fs ∷ ds)
+    by true = ap (λ o. cons_option o (filter_map f ds)) (h _ _ _ ∙ sym (h n s fs))
+    by false = ap (λ o. cons_option o (filter_map f (Inst n s fs ∷ ds))) (h _ _ _)
+none_of_one f h k x (Space n s ∷ ds) = ap (λ o. cons_option o (filter_map f (Space n s ∷ ds))) (h _ _ _)
+none_of_one f h k x (Data n s fs ∷ ds) = ap (λ o. cons_option o (filter_map f (Data n s fs ∷ ds))) (h _ _ _)
+none_of_one f h k x (Lock n ∷ ds) = ap (λ o. cons_option o (filter_map f (Lock n ∷ ds))) (h _ _ _)
+none_of_one f h k x (Barrier n m o v ∷ ds) = ap (λ p. cons_option p (filter_map f (Barrier n m o v ∷ ds))) (h _ _ _)
+
 none_of_pieces : {X : Type 0} (f : Decl → Option X) → ((n : List ℕ) (s : ℕ) (fs : List (List ℕ)) → f (Inst n s fs) ≡ None) → (k : ℕ) (xs : List Piece) → filter_map f (piece_decls k xs) ≡ []
 none_of_pieces f h k [] = refl
-none_of_pieces f h k (x ∷ xs) = ap (λ o. cons_option o (filter_map f (piece_decls (k + 1) xs))) (h _ _ _) ∙ none_of_pieces f h (k + 1) xs
+none_of_pieces f h k (x ∷ xs) = none_of_one f h k x (piece_decls (k + 1) xs) ∙ none_of_pieces f h (k + 1) xs
 
 same_items : {X : Type 0} (f : Decl → Option X) → ((n : List ℕ) (s : ℕ) (fs : List (List ℕ)) → f (Inst n s fs) ≡ None) → (ds : List Decl) (us : Unions) (xs : List Piece) →
     filter_map f ((filter is_kept ds ++ union_decls 0 us) ++ piece_decls 0 xs) ≡ filter_map f ds ++ filter_map f (union_decls 0 us)
@@ -94,13 +107,34 @@ piece_columns ds us xs =
     ∙ (ap (λ ys. (ys ++ flat_map columns_of (union_decls 0 us)) ++ flat_map columns_of (piece_decls 0 xs)) (no_columns ds)
     ∙ ap (λ ys. ys ++ flat_map columns_of (piece_decls 0 xs)) (no_unions 0 us)))
 
-columns_number : (k : ℕ) (xs : List Piece) → length (flat_map columns_of (piece_decls k xs)) ≡ length xs
-columns_number k [] = refl
-columns_number k (x ∷ xs) = ap suc (columns_number (k + 1) xs)
+-- the spaces of the columns of declarations
+abbrev spaces_in : List Decl → List ℕ
+spaces_in ds = map (λ (y : ColumnInfo). y.space) (flat_map columns_of ds)
 
-columns_over : (k : ℕ) (xs : List Piece) → map (λ (y : ColumnInfo). y.space) (flat_map columns_of (piece_decls k xs)) ≡ map (λ (x : Piece). x.space) xs
+-- those of the fields of an instance don't depend on its name
+fields_over : (n m : List ℕ) (s : ℕ) (fs : List (List ℕ)) (ds : List Decl) → spaces_in (Inst n s fs ∷ ds) ≡ spaces_in (Inst m s fs ∷ ds)
+fields_over n m s [] ds = refl
+fields_over n m s (f ∷ fs) ds = ap (λ ys. s ∷ ys) (fields_over n m s fs ds)
+
+one_over : (k : ℕ) (x : Piece) (ds : List Decl) → spaces_in (with_piece k x ds) ≡ x.space ∷ spaces_in ds
+one_over k x [] = refl
+one_over k x (Inst n s fs ∷ ds) = by (x.space == s) (eqb-true x.space s)
+  where
+    by : (b : Bool) → (b ≡ true → x.space ≡ s) → spaces_in (cond b (piece_decl k x.space fs ∷ ds) (piece_decl k x.space [] ∷ Inst n s fs ∷ ds)) ≡ x.space ∷ spaces_in (Inst n s fs ∷ ds)
+    by true same = ap (λ ys. x.space ∷ ys) (fields_over (piece_name k) n x.space fs ds ∙ ap (λ t. spaces_in (Inst n t fs ∷ ds)) (same refl))
+    by false same = refl
+one_over k x (Space n s ∷ ds) = refl
+one_over k x (Data n s fs ∷ ds) = refl
+one_over k x (Lock n ∷ ds) = refl
+one_over k x (Barrier n m o v ∷ ds) = refl
+
+columns_over : (k : ℕ) (xs : List Piece) → spaces_in (piece_decls k xs) ≡ map (λ (x : Piece). x.space) xs
 columns_over k [] = refl
-columns_over k (x ∷ xs) = ap (λ ys. x.space ∷ ys) (columns_over (k + 1) xs)
+columns_over k (x ∷ xs) = one_over k x (piece_decls (k + 1) xs) ∙ ap (λ ys. x.space ∷ ys) (columns_over (k + 1) xs)
+
+columns_number : (k : ℕ) (xs : List Piece) → length (flat_map columns_of (piece_decls k xs)) ≡ length xs
+columns_number k xs =
+    sym (length-map (flat_map columns_of (piece_decls k xs)) (λ (y : ColumnInfo). y.space)) ∙ (ap length (columns_over k xs) ∙ length-map xs (λ (x : Piece). x.space))
 
 pub pieces_keep_spaces : PiecesKeepSpaces
 pieces_keep_spaces g us pieces s =
@@ -115,9 +149,8 @@ pub columns_are_pieces : ColumnsArePieces
 columns_are_pieces g us pieces = ap (map (λ (y : ColumnInfo). y.space)) (piece_columns g.decls us pieces) ∙ columns_over 0 pieces
 
 column_got : (k : ℕ) (xs : List Piece) (j : ℕ) → option_map (λ (y : ColumnInfo). y.space) (slice_get (flat_map columns_of (piece_decls k xs)) j) ≡ option_map (λ (x : Piece). x.space) (slice_get xs j)
-column_got k [] j = refl
-column_got k (x ∷ xs) zero = refl
-column_got k (x ∷ xs) (suc j) = column_got (k + 1) xs j
+column_got k xs j =
+    sym (slice_get-map (λ (y : ColumnInfo). y.space) (flat_map columns_of (piece_decls k xs)) j) ∙ (ap (λ ys. slice_get ys j) (columns_over k xs) ∙ slice_get-map (λ (x : Piece). x.space) xs j)
 
 -- POSITIONS
 position_same : {X : Type 0} (s t : X → Bool) (xs : List X) (k : ℕ) → ((x : X) → Contains xs x → s x ≡ t x) → position_from s k xs ≡ position_from t k xs

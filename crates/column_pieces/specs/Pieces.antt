@@ -1,5 +1,4 @@
--- Pieces: each is of a column, over a declared space, or over a union of such spaces. The graph of pieces declares each union, and has one instance of
--- one field for each piece.
+-- Pieces: each is of a column, over a declared space, or over a union of such spaces. The graph of pieces declares each union, and has a field for each piece.
 use Rattle.std.specs.Prelude.{◌≡◌, ℕ, ◌+◌, ◌-◌, ◌%◌, ◌/◌, ◌<◌, ◌==◌, ◌⊎◌, Bool, cond, nat_lt, not, ◌&&◌, List, [], ◌∷◌, ◌++◌, length, filter, position, find, Contains, slice_get, Some, IsTrue, codes}
 use Rattle.std.specs.Option.{option_map_or}
 use Rattle.index_spaces.specs.Space.{has_point, point_at, IsWithin, Meet}
@@ -61,14 +60,19 @@ abbrev pub union_decls : ℕ → Unions → List Decl
 union_decls k [] = []
 union_decls k (t ∷ ts) = Space (union_name k) t ∷ union_decls (k + 1) ts
 
--- the instance of a piece
-abbrev pub piece_decl : ℕ → Piece → Decl
-piece_decl k x = Inst (piece_name k) x.space (piece_name k ∷ [])
+-- the instance of a piece, with the fields of those that follow it over its space
+abbrev pub piece_decl : ℕ → ℕ → List (List ℕ) → Decl
+piece_decl k space fields = Inst (piece_name k) space (piece_name k ∷ fields)
 
--- the instances of pieces, the first having number k
+-- a piece in front of the instances of those that follow it: it joins the first of them where that is over its space
+abbrev pub with_piece : ℕ → Piece → List Decl → List Decl
+with_piece k x (Inst name space fields ∷ ds) = cond (x.space == space) (piece_decl k x.space fields ∷ ds) (piece_decl k x.space [] ∷ Inst name space fields ∷ ds)
+with_piece k x ds = piece_decl k x.space [] ∷ ds
+
+-- the instances of pieces, the first having number k: pieces over one space that follow one another are fields of one
 abbrev pub piece_decls : ℕ → List Piece → List Decl
 piece_decls k [] = []
-piece_decls k (x ∷ xs) = piece_decl k x ∷ piece_decls (k + 1) xs
+piece_decls k (x ∷ xs) = with_piece k x (piece_decls (k + 1) xs)
 
 -- the declarations that are no instances
 abbrev pub is_kept : Decl → Bool

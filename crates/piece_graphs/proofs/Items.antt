@@ -1,10 +1,10 @@
 -- The items of the graph of pieces, put in one by one.
-use Rattle.std.proofs.Common.{◌≡◌, ℕ, zero, suc, ◌+◌, ◌/◌, ◌%◌, ◌<◌, ◌≤◌, Bool, true, false, cond, List, [], ◌∷◌, ◌++◌, length, take, get_or, refl, sym, ◌∙◌, ap, subst, append_assoc, append-nil, arith}
+use Rattle.std.proofs.Common.{◌≡◌, ℕ, zero, suc, ◌+◌, ◌/◌, ◌%◌, ◌≤◌, Bool, true, false, cond, List, [], ◌∷◌, ◌++◌, length, take, refl, sym, ◌∙◌, ap, subst, append_assoc, append-nil, arith}
 use Rattle.std.specs.Prelude.{Option, Some, None, is_some, slice_get, filter, nat_le, IsTrue, IfSome}
 use Rattle.std.specs.List.{list_all, AllByRecursion}
 use Rattle.std.specs.Char.{is_ascii_lowercase, is_ascii_digit}
 use Rattle.std.proofs.lemmas.Bool.{true≢false, and_from, or_left, le-leb}
-use Rattle.std.proofs.lemmas.Option.{none-some, same_Some, slice_get-get_or}
+use Rattle.std.proofs.lemmas.Option.{none-some, same_Some}
 use Rattle.std.proofs.lemmas.List.{take_all}
 use Rattle.basics.proofs.ListParts.{take_more}
 use Rattle.graph_terms.specs.declared.decl.Decl.{Decl}
@@ -17,8 +17,7 @@ use Rattle.graph_terms.specs.Name.{is_later_byte, is_first_byte, is_name_in}
 use Rattle.graph_terms.specs.Graph.{GraphValue}
 use Rattle.graph_terms.specs.Fits.{is_decl_named, IsDecl, DeclsFit, LinesFit, decl_fault, line_fault, with_decl, with_line}
 use Rattle.column_pieces.specs.Cut.{line_on, lines_on}
-use Rattle.column_pieces.specs.Pieces.{Unions, letter, union_name, union_decls, piece_name, piece_decl, piece_decls, is_kept}
-use Rattle.column_pieces.specs.declared.pieces.Piece.{Piece}
+use Rattle.column_pieces.specs.Pieces.{Unions, letter, union_name, union_decls, piece_name, is_kept}
 use Rattle.piece_graphs.specs.Items.{of_decls, with_kept}
 
 -- NAMES
@@ -99,31 +98,6 @@ kept_unfit cut ds k d at is refused =
     let r = kept_rest ds k d at refused.0 in
     no_more_fit (filter is_kept (take k ds)) d r.0 (filter is_kept ds) r.1 (λ e. refused.1 (ap (λ x. decl_fault x d) is ∙ e))
 
--- the instances of pieces
-decls_length : (n : ℕ) (xs : List Piece) → length (piece_decls n xs) ≡ length xs
-decls_length n [] = refl
-decls_length n (x ∷ xs) = ap suc (decls_length (n + 1) xs)
-
-decls_got : (n : ℕ) (xs : List Piece) (k : ℕ) (x : Piece) → slice_get xs k ≡ Some x → slice_get (piece_decls n xs) k ≡ Some (piece_decl (n + k) x)
-decls_got n [] k x at = absurd (none-some x at)
-decls_got n (y ∷ ys) zero x at =
-    let same : n ≡ n + zero = omega arith in
-    subst (λ m. Some (piece_decl n y) ≡ Some (piece_decl m x)) same (ap (λ z. Some (piece_decl n z)) (same_Some y x at))
-decls_got n (y ∷ ys) (suc k) x at =
-    let same : n + 1 + k ≡ n + suc k = omega arith in
-    subst (λ m. slice_get (piece_decls (n + 1) ys) k ≡ Some (piece_decl m x)) same (decls_got (n + 1) ys k x at)
-
-decl_at : (xs : List Piece) (k : ℕ) (x : Piece) → slice_get xs k ≡ Some x → slice_get (piece_decls 0 xs) k ≡ Some (piece_decl k x)
-decl_at xs k x at =
-    let same : 0 + k ≡ k = omega arith in
-    subst (λ m. slice_get (piece_decls 0 xs) k ≡ Some (piece_decl m x)) same (decls_got 0 xs k x at)
-
-pub pieces_all : (ds : List Decl) (xs : List Piece) (k : ℕ) → length xs ≤ k → ds ++ take k (piece_decls 0 xs) ≡ ds ++ piece_decls 0 xs
-pieces_all ds xs k all =
-    let size : length (piece_decls 0 xs) ≡ length xs = decls_length 0 xs in
-    let enough : length (piece_decls 0 xs) ≤ k = omega (arith, size, all) in
-    ap (λ ys. ds ++ ys) (take_all k (piece_decls 0 xs) enough)
-
 split_at : {X : Type 0} (xs : List X) (k : ℕ) (x : X) → slice_get xs k ≡ Some x → (rest : List X) × (xs ≡ take k xs ++ x ∷ rest)
 split_at [] k x at = absurd (none-some x at)
 split_at (y ∷ ys) zero x at = (ys, ap (λ z. z ∷ ys) (same_Some y x at))
@@ -173,24 +147,6 @@ union_next cut new ds us k t e at = items_step cut new ds (union_decls 0 us) k (
 pub union_refused : (cut : GraphValue) (ds : List Decl) (us : Unions) (k : ℕ) (t : List (ℕ × ℕ)) (e : Decl) → slice_get us k ≡ Some t → cut ≡ of_decls (ds ++ take k (union_decls 0 us)) → e ≡ Space (union_name k) t → (decl_fault cut e ≡ None → ⊥) →
     DeclsFit Three [] (ds ++ union_decls 0 us) → ⊥
 union_refused cut ds us k t e at = items_unfit cut ds (union_decls 0 us) k (Space (union_name k) t) e (union_at us k t at)
-
--- the instances of pieces
-piece_step : (cut new : GraphValue) (ds : List Decl) (xs : List Piece) (k : ℕ) (x : Piece) (e : Decl) → slice_get xs k ≡ Some x → cut ≡ of_decls (ds ++ take k (piece_decls 0 xs)) → e ≡ piece_decl k x → new ≡ with_decl cut e →
-    new ≡ of_decls (ds ++ take (k + 1) (piece_decls 0 xs))
-piece_step cut new ds xs k x e at = items_step cut new ds (piece_decls 0 xs) k (piece_decl k x) e (decl_at xs k x at)
-
-piece_unfit : (cut : GraphValue) (ds : List Decl) (xs : List Piece) (k : ℕ) (x : Piece) (e : Decl) → slice_get xs k ≡ Some x → cut ≡ of_decls (ds ++ take k (piece_decls 0 xs)) → e ≡ piece_decl k x → (decl_fault cut e ≡ None → ⊥) →
-    DeclsFit Three [] (ds ++ piece_decls 0 xs) → ⊥
-piece_unfit cut ds xs k x e at = items_unfit cut ds (piece_decls 0 xs) k (piece_decl k x) e (decl_at xs k x at)
-
--- the same at the piece of a place
-pub piece_next : (cut new : GraphValue) (ds : List Decl) (xs : List Piece) (k n : ℕ) (x : Piece) (e : Decl) → k < length xs → n ≡ k → cut ≡ of_decls (ds ++ take k (piece_decls 0 xs)) → e ≡ piece_decl n (get_or xs k x) → new ≡ with_decl cut e →
-    new ≡ of_decls (ds ++ take (k + 1) (piece_decls 0 xs))
-piece_next cut new ds xs k n x e below same is made added = piece_step cut new ds xs k (get_or xs k x) e (slice_get-get_or xs k x below) is (made ∙ ap (λ m. piece_decl m (get_or xs k x)) same) added
-
-pub piece_refused : (cut : GraphValue) (ds : List Decl) (xs : List Piece) (k n : ℕ) (x : Piece) (e : Decl) → k < length xs → n ≡ k → cut ≡ of_decls (ds ++ take k (piece_decls 0 xs)) → e ≡ piece_decl n (get_or xs k x) → (decl_fault cut e ≡ None → ⊥) →
-    DeclsFit Three [] (ds ++ piece_decls 0 xs) → ⊥
-piece_refused cut ds xs k n x e below same is made refused = piece_unfit cut ds xs k (get_or xs k x) e (slice_get-get_or xs k x below) is (made ∙ ap (λ m. piece_decl m (get_or xs k x)) same) refused
 
 -- names that are names in format 3
 all_named : (fields : List (List ℕ)) → AllByRecursion (λ f. IsTrue (is_name_in Three f)) fields → list_all (is_name_in Three) fields ≡ true

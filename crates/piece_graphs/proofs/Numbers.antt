@@ -1,36 +1,28 @@
 -- The pieces of all columns: they are those of the graph, and each has its number.
 use Rattle.std.proofs.Common.{◌≡◌, ◌≢◌, ℕ, zero, suc, ◌+◌, ◌<◌, ◌≤◌, Bool, true, false, cond, ◌⊎◌, inl, inr, List, [], ◌∷◌, ◌++◌, length, map, take, get_or, append_assoc, append-nil, length-append, refl, sym, ◌∙◌, ap, subst, arith}
-use Rattle.std.specs.Prelude.{◌==◌, Option, Some, None, Contains, slice_get, filter, position, nat_lt, option_map, Vec}
+use Rattle.std.specs.Prelude.{◌==◌, Option, Some, None, Contains, slice_get, filter, nat_lt, option_map, Vec}
 use Rattle.std.specs.Global.{Global}
 use Rattle.std.specs.Option.{option_map_or}
-use Rattle.std.specs.List.{list_any, position_from}
-use Rattle.std.proofs.lemmas.Bool.{both_ways, and_parts, and_from, cases_lt, cases_eq, ltb-true, ltb-false, lt-ltb, le-ltb, eq-eqb, eqb-true, false_from_ne_true}
+use Rattle.std.proofs.lemmas.Bool.{both_ways, and_parts, and_from, cases_lt, cases_eq, ltb-true, ltb-false, eq-eqb, eqb-true, false_from_ne_true}
 use Rattle.std.proofs.lemmas.Option.{none-some, same_Some, slice_get-get_or, slice_get_past, slice_get-map}
 use Rattle.std.proofs.lemmas.List.{take_all, length-map}
 use Rattle.std.proofs.lemmas.List.Elements.{Contains-append_left, Contains-append_right, Contains-append_cases, Contains-get_or}
-use Rattle.std.proofs.lemmas.List.Quantifiers.{position-Some}
-use Rattle.std.proofs.lemmas.Iterator.Adapters.{position_from-zero}
 use Rattle.basics.proofs.ListFacts.{contains_here, contains_there, contains_none, contains_cases, contains_map, map_contains, got_contains, some_passes, passes_some}
-use Rattle.basics.proofs.ListParts.{take_more, got_cases}
-use Rattle.basics.proofs.TestedLists.{within}
-use Rattle.index_spaces.specs.Space.{has_point, point_at, IsSpace, IsWithin, Meet}
+use Rattle.basics.proofs.ListParts.{take_more}
+use Rattle.index_spaces.specs.Space.{has_point, IsWithin, Meet}
 use Rattle.graph_terms.specs.declared.verb.Access.{Access}
 use Rattle.graph_terms.specs.declared.verb.Line.{Line}
 use Rattle.graph_terms.specs.Fits.{IsGraph}
-use Rattle.graph_terms.specs.Graph.{GraphValue, named_spaces, space_at}
+use Rattle.graph_terms.specs.Graph.{GraphValue, space_at}
 use Rattle.graph_terms.specs.Access.{accesses, in_format, verb_accesses}
 use Rattle.column_pieces.specs.Pieces.{Unions, piece_space, has_cell, IsConnected, IsWhole, ArePieces}
 use Rattle.column_pieces.specs.declared.pieces.Piece.{Piece}
 use Rattle.column_pieces.specs.declared.pieces.TheConstants.{MAX_COLUMN_PIECES}
-use Rattle.column_pieces.proofs.Public.{spaces_keep_numbers}
 use Rattle.column_parts.specs.Parts.{AreApart, IsFound, IsCovered}
-use Rattle.column_parts.proofs.Public.{first_point, part_point, one_place}
+use Rattle.column_parts.proofs.Public.{part_point}
 use Rattle.piece_graphs.specs.Uncut.{AreOnce, OneEach, FewEach}
 use Rattle.piece_graphs.specs.Over.{own_spaces, piece_spaces, AreOwnPieces}
-use Rattle.piece_graphs.specs.Naming.{place_of}
-use Rattle.piece_graphs.specs.Numbered.{all_pieces, start_of, has_two, AreStarts, AreColumns}
-use Rattle.piece_graphs.specs.declared.numbered.ColumnPieces.{ColumnPieces}
-use Rattle.piece_graphs.proofs.Naming.{some_place}
+use Rattle.piece_graphs.specs.Numbered.{all_pieces, has_two}
 
 abbrev Lists : Type 0
 Lists = List (Vec Piece Global)
@@ -39,14 +31,14 @@ Lists = List (Vec Piece Global)
 pub cell_column : (g : GraphValue) (us : Unions) (c p : ℕ) (x : Piece) → has_cell g us c p x ≡ true → x.column ≡ c
 cell_column g us c p x h = eqb-true x.column c (and_parts (x.column == c) (has_point (piece_space g us x.space) p) h).0
 
-cell_point : (g : GraphValue) (us : Unions) (c p : ℕ) (x : Piece) → has_cell g us c p x ≡ true → has_point (piece_space g us x.space) p ≡ true
+pub cell_point : (g : GraphValue) (us : Unions) (c p : ℕ) (x : Piece) → has_cell g us c p x ≡ true → has_point (piece_space g us x.space) p ≡ true
 cell_point g us c p x h = (and_parts (x.column == c) (has_point (piece_space g us x.space) p) h).1
 
-cell_at : (g : GraphValue) (us : Unions) (x : Piece) (c p : ℕ) → x.column ≡ c → has_point (piece_space g us x.space) p ≡ true → has_cell g us c p x ≡ true
+pub cell_at : (g : GraphValue) (us : Unions) (x : Piece) (c p : ℕ) → x.column ≡ c → has_point (piece_space g us x.space) p ≡ true → has_cell g us c p x ≡ true
 cell_at g us x c p e h = and_from (x.column == c) (has_point (piece_space g us x.space) p) (eq-eqb x.column c e) h
 
 -- a piece stands in one place
-once_place : (xs : List Piece) (x : Piece) (j k : ℕ) → AreOnce xs → slice_get xs j ≡ Some x → slice_get xs k ≡ Some x → j ≡ k
+pub once_place : (xs : List Piece) (x : Piece) (j k : ℕ) → AreOnce xs → slice_get xs j ≡ Some x → slice_get xs k ≡ Some x → j ≡ k
 once_place [] x j k o p q = absurd (none-some x p)
 once_place (y ∷ ys) x zero zero o p q = refl
 once_place (y ∷ ys) x zero (suc k) o p q = absurd (o.0 (subst (Contains ys) (sym (same_Some y x p)) (got_contains ys k x q)))
@@ -269,131 +261,3 @@ module _ (g : GraphValue) (us : Unions) (lists : Lists) (fits : IsGraph g) (are 
           (v : Vec Piece Global) × (slice_get lists c ≡ Some v) × (own_spaces g us v.items ≡ ts)
       list_of c ts None e f = absurd (none-some ts f)
       list_of c ts (Some v) e f = (v, e, same_Some (own_spaces g us v.items) ts f)
-
--- PLACES
-from_there : (t : Piece → Bool) (n : ℕ) (xs ys : List Piece) → ((x : Piece) → Contains xs x → t x ≡ false) → position_from t n (xs ++ ys) ≡ position_from t (n + length xs) ys
-from_there t n [] ys none = ap (λ m. position_from t m ys) (let e : n ≡ n + 0 = omega arith in e)
-from_there t n (x ∷ xs) ys none =
-    ap (λ b. cond b (Some n) (position_from t (n + 1) (xs ++ ys))) (none x (contains_here x xs))
-    ∙ (from_there t (n + 1) xs ys (λ y k. none y (contains_there x xs y k)) ∙ ap (λ m. position_from t m ys) (let e : n + 1 + length xs ≡ n + suc (length xs) = omega arith in e))
-
-from_nowhere : (t : Piece → Bool) (n : ℕ) (ys : List Piece) → ((y : Piece) → Contains ys y → t y ≡ false) → position_from t n ys ≡ None
-from_nowhere t n [] none = refl
-from_nowhere t n (y ∷ ys) none =
-    ap (λ b. cond b (Some n) (position_from t (n + 1) ys)) (none y (contains_here y ys)) ∙ from_nowhere t (n + 1) ys (λ z k. none z (contains_there y ys z k))
-
-from_here : (t : Piece → Bool) (n : ℕ) (xs ys : List Piece) → ((y : Piece) → Contains ys y → t y ≡ false) → position_from t n (xs ++ ys) ≡ position_from t n xs
-from_here t n [] ys none = from_nowhere t n ys none
-from_here t n (x ∷ xs) ys none = ap (cond (t x) (Some n)) (from_here t (n + 1) xs ys none)
-
-from_later : (t : Piece → Bool) (n : ℕ) (xs : List Piece) → position_from t n xs ≡ option_map (λ k. n + k) (position_from t 0 xs)
-from_later t n [] = refl
-from_later t n (x ∷ xs) = by (t x) (from_later t (n + 1) xs) (from_later t 1 xs)
-  where
-    summed : (o : Option ℕ) → option_map (λ k. n + 1 + k) o ≡ option_map (λ k. n + k) (option_map (λ k. 1 + k) o)
-    summed None = refl
-    summed (Some k) = ap (λ m. Some m) (let e : n + 1 + k ≡ n + (1 + k) = omega arith in e)
-
-    by : (b : Bool) → position_from t (n + 1) xs ≡ option_map (λ k. n + 1 + k) (position_from t 0 xs) → position_from t 1 xs ≡ option_map (λ k. 1 + k) (position_from t 0 xs) →
-        cond b (Some n) (position_from t (n + 1) xs) ≡ option_map (λ k. n + k) (cond b (Some 0) (position_from t 1 xs))
-    by true e f = ap (λ m. Some m) (let z : n ≡ n + 0 = omega arith in z)
-    by false e f = e ∙ (summed (position_from t 0 xs) ∙ ap (option_map (λ k. n + k)) (sym f))
-
--- a piece that only the list of one column has
-place_from : (t : Piece → Bool) (n : ℕ) (lists : Lists) (c : ℕ) (v : Vec Piece Global) → slice_get lists c ≡ Some v → ((b : ℕ) (w : Vec Piece Global) (x : Piece) → b ≢ c → slice_get lists b ≡ Some w → Contains w.items x → t x ≡ false) →
-    position_from t n (all_pieces lists) ≡ position_from t (n + length (all_pieces (take c lists))) v.items
-place_from t n [] c v at others = absurd (none-some v at)
-place_from t n (w ∷ vs) zero v at others =
-    from_here t n w.items (all_pieces vs) (λ y k. let r = in_list vs y k in others (suc r.0) r.1 y (λ e. (let f : suc r.0 ≡ 0 = e in omega (arith, f))) r.2 r.3)
-    ∙ (ap (λ (u : Vec Piece Global). position_from t n u.items) (same_Some w v at) ∙ ap (λ m. position_from t m v.items) (let e : n ≡ n + 0 = omega arith in e))
-place_from t n (w ∷ vs) (suc c) v at others =
-    from_there t n w.items (all_pieces vs) (λ x k. others 0 w x (λ e. (let f : 0 ≡ suc c = e in omega (arith, f))) refl k)
-    ∙ (place_from t (n + length w.items) vs c v at (λ b u x other got k. others (suc b) u x (λ e. other (let f : suc b ≡ suc c = e in omega (arith, f))) got k)
-    ∙ ap (λ m. position_from t m v.items) (
-    let long : length (w.items ++ all_pieces (take c vs)) ≡ length w.items + length (all_pieces (take c vs)) = length-append w.items (all_pieces (take c vs)) in
-    let e : n + length w.items + length (all_pieces (take c vs)) ≡ n + length (w.items ++ all_pieces (take c vs)) = omega (arith, long) in
-    e))
-
-pub place_in_all : (g : GraphValue) (us : Unions) (lists : Lists) (c p : ℕ) (v : Vec Piece Global) → ((b : ℕ) (w : Vec Piece Global) (x : Piece) → slice_get lists b ≡ Some w → Contains w.items x → x.column ≡ b) → slice_get lists c ≡ Some v →
-    position (has_cell g us c p) (all_pieces lists) ≡ option_map (λ k. start_of lists c + k) (position (has_cell g us c p) v.items)
-place_in_all g us lists c p v owns at =
-    position_from-zero (has_cell g us c p) (all_pieces lists)
-    ∙ (place_from (has_cell g us c p) 0 lists c v at (λ b w x other got k. false_from_ne_true (has_cell g us c p x) (λ e. other (sym (owns b w x got k) ∙ cell_column g us c p x e)))
-    ∙ (ap (λ n. position_from (has_cell g us c p) n v.items) (let z : 0 + start_of lists c ≡ start_of lists c = omega arith in z)
-    ∙ (from_later (has_cell g us c p) (start_of lists c) v.items ∙ ap (option_map (λ k. start_of lists c + k)) (sym (position_from-zero (has_cell g us c p) v.items)))))
-
--- NUMBERS
--- the first pieces of the first columns have their numbers
-pub record HaveStarts (lists : Lists) (k : ℕ) (starts : List ℕ) (start : ℕ) : Type 0 where
-  pub count : length starts ≡ k
-  pub each : (c s : ℕ) → slice_get starts c ≡ Some s → s ≡ start_of lists c
-  pub next : start ≡ start_of lists k
-
-pub none_numbered : (lists : Lists) → HaveStarts lists 0 [] 0
-none_numbered lists = record { count = refl; each = λ c s at. absurd (none-some s at); next = refl }
-
-pub start_next : (lists : Lists) (k : ℕ) (v : Vec Piece Global) → slice_get lists k ≡ Some v → start_of lists (k + 1) ≡ start_of lists k + length v.items
-start_next lists k v at = ap length (all_more lists k v at) ∙ length-append (all_pieces (take k lists)) v.items
-
-pub one_numbered : (lists : Lists) (k : ℕ) (starts new : List ℕ) (start next : ℕ) (v : Vec Piece Global) → HaveStarts lists k starts start → slice_get lists k ≡ Some v → new ≡ starts ++ start ∷ [] → next ≡ start + length v.items → HaveStarts lists (k + 1) new next
-one_numbered lists k starts new start next v have at put sum = record {
-  count = ap length put ∙ (length-append starts (start ∷ []) ∙ ap (λ n. n + 1) have.count);
-  each = λ c s got. elim (got_cases starts start c s (subst (λ xs. slice_get xs c ≡ Some s) put got)) [
-    | inl early ↦ have.each c s early.1
-    | inr last ↦ sym last.1 ∙ (have.next ∙ ap (start_of lists) (sym (last.0 ∙ have.count)))
-  ];
-  next = sum ∙ (ap (λ n. n + length v.items) have.next ∙ sym (start_next lists k v at));
-}
-
-pub all_numbered : (lists : Lists) (k : ℕ) (starts : List ℕ) (start : ℕ) → HaveStarts lists k starts start → k ≡ length lists → AreStarts lists starts
-all_numbered lists k starts start have all = record { count = have.count ∙ all; each = have.each }
-
--- THE PIECE OF A SPACE
-pub apart_at : (g : GraphValue) (us : Unions) (lists : Lists) → AreOwnPieces g us lists → (c : ℕ) (v : Vec Piece Global) → slice_get lists c ≡ Some v → AreApart (own_spaces g us v.items)
-apart_at g us lists are c v at =
-    (are.found.lists.each c (own_spaces g us v.items) (slice_get-map (λ (w : Vec Piece Global). own_spaces g us w.items) lists c ∙ ap (option_map (λ (w : Vec Piece Global). own_spaces g us w.items)) at)).apart
-
--- the number of a piece by its place among those of its column
-pub number_of : (g : GraphValue) (x : ColumnPieces) (c p : ℕ) (v : Vec Piece Global) (s : ℕ) → AreColumns g x → slice_get x.lists.items c ≡ Some v → slice_get x.starts.items c ≡ Some s → (k : ℕ) → Some k ≡ position (has_cell g x.unions.items c p) v.items →
-    s + k ≡ place_of g x.unions.items x.pieces.items c p
-number_of g x c p v s are at start k found =
-    ap (λ n. n + k) (are.numbered.starts.each c s start)
-    ∙ sym (ap (λ ps. option_map_or (λ (j : ℕ). j) (position (has_cell g x.unions.items c p) ps) c) are.numbered.pieces
-    ∙ ap (λ o. option_map_or (λ (j : ℕ). j) o c) (place_in_all g x.unions.items x.lists.items c p v are.lists.own at ∙ ap (option_map (λ j. start_of x.lists.items c + j)) (sym found)))
-
-pub no_number : (g : GraphValue) (x : ColumnPieces) (c p : ℕ) (v : Vec Piece Global) → AreColumns g x → slice_get x.lists.items c ≡ Some v → None ≡ position (has_cell g x.unions.items c p) v.items → c ≡ place_of g x.unions.items x.pieces.items c p
-no_number g x c p v are at found =
-    sym (ap (λ ps. option_map_or (λ (j : ℕ). j) (position (has_cell g x.unions.items c p) ps) c) are.numbered.pieces
-    ∙ ap (λ o. option_map_or (λ (j : ℕ). j) o c) (place_in_all g x.unions.items x.lists.items c p v are.lists.own at ∙ ap (option_map (λ j. start_of x.lists.items c + j)) (sym found)))
-
--- and it is low
-pub number_below : (g : GraphValue) (x : ColumnPieces) (c : ℕ) (v : Vec Piece Global) (s k : ℕ) → AreColumns g x → slice_get x.lists.items c ≡ Some v → slice_get x.starts.items c ≡ Some s → k < length v.items → s + k < 1024
-number_below g x c v s k are at start below =
-    let first : s ≡ start_of x.lists.items c = are.numbered.starts.each c s start in
-    let next : start_of x.lists.items (c + 1) ≡ start_of x.lists.items c + length v.items = start_next x.lists.items c v at in
-    let some : start_of x.lists.items (c + 1) ≤ length (all_pieces x.lists.items) = some_of_all x.lists.items (c + 1) in
-    let all : length x.pieces.items ≡ length (all_pieces x.lists.items) = ap length are.numbered.pieces in
-    let few : length x.pieces.items ≤ 1024 = are.numbered.few in
-    omega arith
-
--- a piece over a space is the one that has its first point
-pub space_place : (g : GraphValue) (us : Unions) (c s : ℕ) (xs : List Piece) → AreApart (own_spaces g us xs) → ((x : Piece) → Contains xs x → x.column ≡ c) → s < length (named_spaces g) → IsSpace (space_at g s) →
-    (k : ℕ) → position (λ (x : Piece). x.space == s) xs ≡ Some k → Some k ≡ position (has_cell g us c (point_at (space_at g s) 0)) xs
-space_place g us c s xs apart owns known space k at =
-    let no_piece : Piece = record { column = 0; space = 0 } in
-    let p = point_at (space_at g s) 0 in
-    let f = position-Some (λ (x : Piece). x.space == s) xs k no_piece at in
-    let x = get_or xs k no_piece in
-    let kx = Contains-get_or xs k no_piece f.0 in
-    let point : has_point (piece_space g us s) p ≡ true = subst (λ (t : List (ℕ × ℕ)). has_point t p ≡ true) (sym (spaces_keep_numbers g us s known)) (first_point (space_at g s) space) in
-    let hx : has_cell g us c p x ≡ true = cell_at g us x c p (owns x kx) (subst (λ r. has_point (piece_space g us r) p ≡ true) (sym (eqb-true x.space s f.1)) point) in
-    let j = some_place (has_cell g us c p) xs x kx hx in
-    let h = position-Some (has_cell g us c p) xs j.0 no_piece j.1 in
-    let y = get_or xs j.0 no_piece in
-    let got : (i : ℕ) → i < length xs → slice_get (own_spaces g us xs) i ≡ Some (over g us (get_or xs i no_piece)) = λ (i : ℕ) (below : i < length xs).
-    slice_get-map (over g us) xs i ∙ ap (option_map (over g us)) (slice_get-get_or xs i no_piece below) in
-    let place : k ≡ j.0 = one_place (own_spaces g us xs) k j.0 (over g us x) (over g us y) apart (got k f.0) (got j.0 h.0) (p, cell_point g us c p x hx, cell_point g us c p y h.1) in
-    ap (λ n. Some n) place ∙ sym j.1
-
-pub place_below : (t : Piece → Bool) (xs : List Piece) (k : ℕ) → position t xs ≡ Some k → k < length xs
-place_below t xs k at = (position-Some t xs k (record { column = 0; space = 0 }) at).0

@@ -2,7 +2,7 @@
 
 ghost use Rattle.std.specs.Prelude.{◌≡◌, ◌++◌, filter, None, IfOk, IfSome};
 ghost use Rattle.graph_terms.specs.Fits.{IsGraph};
-ghost use Rattle.column_pieces.specs.Pieces.{is_kept, union_decls, ArePieces, graph_of_pieces};
+ghost use Rattle.column_pieces.specs.Pieces.{is_kept, union_decls, graph_of_pieces};
 ghost use Rattle.piece_graphs.specs.Items.{of_decls};
 ghost use Rattle.piece_graphs.specs.Numbered.{AreColumns};
 
@@ -19,7 +19,6 @@ pub(crate) fn graph_of_pieces(
     graph: &Graph,
     columns: &ColumnPieces,
 ) -> Result<Option<Graph>, NoMemory>
-    requires pieces { ArePieces graph.now columns.now.unions.items columns.now.pieces.items }
     requires columns { AreColumns graph.now columns.now }
     ensures some { IfOk result (λ o. IfSome o (λ g. g ≡ graph_of_pieces graph.now columns.now.unions.items columns.now.pieces.items)) }
     ensures none { IfOk result (λ o. o ≡ None → IsGraph (graph_of_pieces graph.now columns.now.unions.items columns.now.pieces.items) → ⊥) }
@@ -37,7 +36,6 @@ fn with_items(
     graph: &Graph,
     columns: &ColumnPieces,
 ) -> Result<Option<Graph>, NoMemory>
-    requires pieces { ArePieces graph.now columns.now.unions.items columns.now.pieces.items }
     requires columns { AreColumns graph.now columns.now }
     requires kept { kept ≡ of_decls (filter is_kept graph.now.decls) }
     ensures some { IfOk result (λ o. IfSome o (λ g. g ≡ graph_of_pieces graph.now columns.now.unions.items columns.now.pieces.items)) }
@@ -56,7 +54,6 @@ fn with_instances(
     graph: &Graph,
     columns: &ColumnPieces,
 ) -> Result<Option<Graph>, NoMemory>
-    requires pieces { ArePieces graph.now columns.now.unions.items columns.now.pieces.items }
     requires columns { AreColumns graph.now columns.now }
     requires spaces { spaces ≡ of_decls (filter is_kept graph.now.decls ++ union_decls 0 columns.now.unions.items) }
     ensures some { IfOk result (λ o. IfSome o (λ g. g ≡ graph_of_pieces graph.now columns.now.unions.items columns.now.pieces.items)) }

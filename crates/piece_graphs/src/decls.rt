@@ -1,11 +1,11 @@
 //! The declarations of a graph of pieces.
 
-ghost use Rattle.std.specs.Prelude.{◌≡◌, ◌<◌, ◌≤◌, [], ◌++◌, length, filter, None, IfOk, IfSome, MatchOption, IsTrue, true, false};
+ghost use Rattle.std.specs.Prelude.{◌≡◌, ◌<◌, ◌≤◌, ◌+◌, ◌-◌, [], ◌++◌, length, filter, None, IfOk, IfSome, MatchOption, IsTrue, true, false};
 ghost use Rattle.graph_terms.specs.declared.format.Format.TheVariants.{Three};
 ghost use Rattle.piece_graphs.specs.declared.limits.TheConstants.{MAX_PIECES};
 ghost use Rattle.graph_terms.specs.Fits.{decl_fault, with_decl, DeclsFit};
-ghost use Rattle.piece_graphs.specs.Items.{of_decls, with_kept};
-ghost use Rattle.column_pieces.specs.Pieces.{is_kept, letter, union_name, union_decls, piece_name, piece_decl, piece_decls};
+ghost use Rattle.piece_graphs.specs.Items.{of_decls, with_kept, piece_names, is_last};
+ghost use Rattle.column_pieces.specs.Pieces.{is_kept, letter, union_name, union_decls, piece_name, piece_decls};
 
 use column_pieces::pieces::Piece;
 use graph_copies::copy_of_decl;
@@ -53,8 +53,8 @@ pub(crate) fn with_unions(
     Ok(Some(cut))
 }
 
-/// Puts an instance for each piece behind the declarations of a graph. `None` exactly where one of
-/// them does not fit there.
+/// Puts a field for each piece behind the declarations of a graph. Pieces over one space that follow
+/// one another are fields of one instance. `None` exactly where an instance does not fit there.
 pub(crate) fn with_pieces(
     alloc: Global,
     mut cut: Graph,
@@ -65,13 +65,16 @@ pub(crate) fn with_pieces(
     ensures some { IfOk result (λ o. IfSome o (λ g. g ≡ of_decls (cut.decls ++ piece_decls 0 pieces.now))) }
     ensures none { IfOk result (λ o. o ≡ None → DeclsFit Three [] (cut.decls ++ piece_decls 0 pieces.now) → ⊥) }
 {
-    let mut k = 0;
-    for piece in pieces {
-        let decl = piece_decl(alloc, k, *piece)?;
-        if !offer_decl(&mut cut, decl)? {
-            return Ok(None);
+    let mut first = 0;
+    for k in 0..pieces.len() {
+        let space = pieces[k].space;
+        if is_last(pieces, k, space) {
+            let decl = piece_decl(alloc, first, k, space)?;
+            if !offer_decl(&mut cut, decl)? {
+                return Ok(None);
+            }
+            first = k + 1;
         }
-        k += 1;
     }
     Ok(Some(cut))
 }
@@ -126,18 +129,42 @@ fn union_decl(alloc: Global, k: usize, space: &Space) -> Result<Decl, NoMemory>
     })
 }
 
-/// The instance of a piece.
-fn piece_decl(alloc: Global, k: u32, piece: Piece) -> Result<Decl, NoMemory>
-    ensures { IfOk result (λ d. d ≡ piece_decl k piece) }
+/// Whether a piece over a space is the last one of its instance: the next one is over another space.
+fn is_last(pieces: &[Piece], k: usize, space: u32) -> bool
+    requires { k < length pieces.now }
+    ensures { result ≡ is_last pieces.now k space }
 {
-    let name = piece_name(k as usize);
-    let mut fields = NameList::new(alloc);
-    fields.push(name)?;
+    match pieces.get(k + 1) {
+        Some(next) => next.space != space,
+        None => true,
+    }
+}
+
+/// The instance of the pieces from a first number up to a last one, which are over one space.
+fn piece_decl(alloc: Global, first: usize, last: usize, space: u32) -> Result<Decl, NoMemory>
+    requires order { first ≤ last }
+    requires few { last < MAX_PIECES }
+    ensures { IfOk result (λ d. d ≡ Decl.Inst (piece_name first) space (piece_names first (last + 1 - first))) }
+{
+    let fields = piece_names(alloc, first, last + 1)?;
     Ok(Decl::Inst {
-        name,
-        space: piece.space,
+        name: piece_name(first),
+        space,
         fields,
     })
+}
+
+/// The names of the pieces from a first number on, up to an end.
+fn piece_names(alloc: Global, first: usize, end: usize) -> Result<NameList, NoMemory>
+    requires order { first ≤ end }
+    requires few { end ≤ MAX_PIECES }
+    ensures { IfOk result (λ v. v ≡ piece_names first (end - first)) }
+{
+    let mut names = NameList::new(alloc);
+    for k in first..end {
+        names.push(piece_name(k))?;
+    }
+    Ok(names)
 }
 
 /// The name of a piece: `Piece_` and four letters.

@@ -1,23 +1,20 @@
 //! The lines of a graph of pieces.
 
-ghost use Rattle.std.specs.Prelude.{◌≡◌, ◌==◌, ◌<◌, Contains, length, position, find, slice_get, Some, None, IfOk, IfSome};
-ghost use Rattle.index_spaces.specs.Space.{point_at, IsSpace};
+ghost use Rattle.std.specs.Prelude.{◌≡◌, ◌==◌, ◌<◌, Contains, false, length, position, find, slice_get, Some, None, IfOk, IfSome, IsTrue};
+ghost use Rattle.index_spaces.specs.Space.{has_point, point_at, IsSpace};
 ghost use Rattle.graph_terms.specs.declared.verb.Access.{Access};
 ghost use Rattle.graph_terms.specs.Graph.{named_spaces, space_at};
 ghost use Rattle.graph_terms.specs.Access.{accesses};
 ghost use Rattle.graph_terms.specs.Fits.{IsGraph};
 ghost use Rattle.column_pieces.specs.Cut.{kernel_on, verb_on, line_on};
-ghost use Rattle.column_pieces.specs.Pieces.{has_cell, named_at, decls_of_pieces, graph_of_pieces, ArePieces};
-ghost use Rattle.column_parts.specs.Parts.{AreApart};
+ghost use Rattle.column_pieces.specs.Pieces.{piece_space, named_at, decls_of_pieces, graph_of_pieces};
 ghost use Rattle.piece_graphs.specs.Items.{of_decls};
-ghost use Rattle.piece_graphs.specs.Over.{own_spaces};
-ghost use Rattle.column_pieces.specs.declared.pieces.Piece.{Piece};
+ghost use Rattle.piece_graphs.specs.declared.numbered.Place.{Place};
 ghost use Rattle.piece_graphs.specs.Naming.{place_of, name_of};
 ghost use Rattle.piece_graphs.specs.Numbered.{AreColumns};
 
-use crate::numbered::ColumnPieces;
-use crate::within::{first_point, has_cell};
-use column_pieces::pieces::Piece;
+use crate::numbered::{ColumnPieces, Place};
+use crate::within::{first_point, has_point};
 use graph_copies::copy_of_line;
 use graph_meaning::line_laws::{accesses_are_few, accesses_fit};
 use graph_model::graph::Graph;
@@ -35,7 +32,6 @@ pub(crate) fn with_lines(
     graph: &Graph,
     columns: &ColumnPieces,
 ) -> Result<Option<Graph>, NoMemory>
-    requires pieces { ArePieces graph.now columns.now.unions.items columns.now.pieces.items }
     requires columns { AreColumns graph.now columns.now }
     requires declared { cut ≡ of_decls (decls_of_pieces graph.now columns.now.unions.items columns.now.pieces.items) }
     ensures some { IfOk result (λ o. IfSome o (λ g. g ≡ graph_of_pieces graph.now columns.now.unions.items columns.now.pieces.items)) }
@@ -61,7 +57,6 @@ fn line_of_pieces(
 ) -> Result<Line, NoMemory>
     requires line { slice_get graph.now.lines i ≡ Some line.now }
     requires below { i < length graph.now.lines }
-    requires pieces { ArePieces graph.now columns.now.unions.items columns.now.pieces.items }
     requires columns { AreColumns graph.now columns.now }
     ensures { IfOk result (λ l. l ≡ line_on (named_at graph.now columns.now.unions.items columns.now.pieces.items i) line.now) }
 {
@@ -207,61 +202,44 @@ fn access_of(graph: &Graph, i: u32, column: u32) -> Option<Access>
 
 /// The number of the piece that has the first point of a space by which a column is accessed.
 fn place_of(graph: &Graph, columns: &ColumnPieces, column: u32, space: u32) -> u32
-    requires known { column < length columns.now.lists.items }
+    requires known { column < length columns.now.places.items }
     requires space { space < length (named_spaces graph.now) }
     requires is_space { IsSpace (space_at graph.now space) }
     requires columns { AreColumns graph.now columns.now }
     ensures { result ≡ place_of graph.now columns.now.unions.items columns.now.pieces.items column (point_at (space_at graph.now space) 0) }
 {
-    let own = &columns.lists[column as usize];
-    let start = columns.starts[column as usize];
-    match place_in(graph, &columns.unions, own, column, space) {
-        Some(k) => start + k as u32,
+    let own = &columns.places[column as usize];
+    match place_in(graph, &columns.unions, own, space) {
+        Some(k) => own[k].number,
         None => column,
     }
 }
 
 /// The place of that piece among those of the column.
-fn place_in(
-    graph: &Graph,
-    unions: &[Space],
-    own: &[Piece],
-    column: u32,
-    space: u32,
-) -> Option<usize>
+fn place_in(graph: &Graph, unions: &[Space], own: &[Place], space: u32) -> Option<usize>
     requires space { space < length (named_spaces graph.now) }
     requires is_space { IsSpace (space_at graph.now space) }
-    requires apart { AreApart (own_spaces graph.now unions.now own.now) }
-    requires own { (x : Piece) → Contains own.now x → x.column ≡ column }
-    ensures found { result ≡ position (has_cell graph.now unions.now column (point_at (space_at graph.now space) 0)) own.now }
-    ensures below { IfSome result (λ k. k < length own.now) }
+    ensures some { IfSome result (λ k. (p : Place) × (slice_get own.now k ≡ Some p) × IsTrue (has_point (piece_space graph.now unions.now p.space) (point_at (space_at graph.now space) 0))) }
+    ensures none { result ≡ None → (p : Place) → Contains own.now p → has_point (piece_space graph.now unions.now p.space) (point_at (space_at graph.now space) 0) ≡ false }
 {
     // An access over the very space of a piece is told without a look at its points.
     match place_of_space(own, space) {
         Some(k) => Some(k),
-        None => position(graph, unions, own, column, first_point(graph, space)),
+        None => place_of_point(graph, unions, own, first_point(graph, space)),
     }
 }
 
-/// The first of these pieces over a space.
-fn place_of_space(own: &[Piece], space: u32) -> Option<usize>
-    ensures { result ≡ position (λ (x : Piece). x.space == space) own.now }
+/// The first of these places over a space.
+fn place_of_space(own: &[Place], space: u32) -> Option<usize>
+    ensures { result ≡ position (λ (p : Place). p.space == space) own.now }
 {
-    own.iter().position(|piece| piece.space == space)
+    own.iter().position(|place| place.space == space)
 }
 
-/// The first of these pieces that has the cell of a column at a point.
-fn position(
-    graph: &Graph,
-    unions: &[Space],
-    pieces: &[Piece],
-    column: u32,
-    point: u32,
-) -> Option<usize>
-    ensures found { result ≡ position (has_cell graph.now unions.now column point) pieces.now }
-    ensures below { IfSome result (λ k. k < length pieces.now) }
+/// The first of these places over a space that has a point.
+fn place_of_point(graph: &Graph, unions: &[Space], own: &[Place], point: u32) -> Option<usize>
+    ensures { result ≡ position (λ (p : Place). has_point (piece_space graph.now unions.now p.space) point) own.now }
 {
-    pieces
-        .iter()
-        .position(|piece| has_cell(graph, unions, column, point, *piece))
+    own.iter()
+        .position(|place| has_point(graph, unions, place.space, point))
 }

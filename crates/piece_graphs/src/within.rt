@@ -3,9 +3,8 @@
 ghost use Rattle.std.specs.Prelude.{◌≡◌, ◌<◌, length};
 ghost use Rattle.index_spaces.specs.Space.{has_point, point_at};
 ghost use Rattle.graph_terms.specs.Graph.{named_spaces, space_at};
-ghost use Rattle.column_pieces.specs.Pieces.{piece_space, has_cell};
+ghost use Rattle.column_pieces.specs.Pieces.{piece_space};
 
-use column_pieces::pieces::Piece;
 use graph_model::graph::Graph;
 use index_spaces::space::Space;
 
@@ -19,21 +18,8 @@ pub(crate) fn first_point(graph: &Graph, s: u32) -> u32
     space.point(0)
 }
 
-/// Whether a piece has the cell of a column at a point.
-pub(crate) fn has_cell(
-    graph: &Graph,
-    unions: &[Space],
-    column: u32,
-    point: u32,
-    piece: Piece,
-) -> bool
-    ensures { result ≡ has_cell graph.now unions.now column point piece }
-{
-    piece.column == column && has_point(graph, unions, piece.space, point)
-}
-
 /// Whether the space of a number, declared or a union, has a point.
-fn has_point(graph: &Graph, unions: &[Space], s: u32, point: u32) -> bool
+pub(crate) fn has_point(graph: &Graph, unions: &[Space], s: u32, point: u32) -> bool
     ensures { result ≡ has_point (piece_space graph.now unions.now s) point }
 {
     let spaces = graph.spaces();

@@ -50,6 +50,15 @@ const NAMED_THIRD: &str =
     "realm 3\nspace w 0..5\nspace Piece_aaac 0..2\nspace right 3..5\ninst a w x\n\
     f = fill a.x Piece_aaac 1\ng = fill a.x right 1\nend\n";
 
+/// Two tiles of two columns, in a graph that has the name of the second piece: the first instance has a field of that name.
+const NAMED_FIELD: &str =
+    "realm 3\nspace w 0..5\nspace Piece_aaab 0..2\nspace right 3..5\ninst a w x,y\n\
+    f = fill a.x right 1\ng = fill a.y right 1\nh = fill a.y Piece_aaab 1\ni = fill a.x Piece_aaab 1\nend\n";
+/// The same with the name of the third piece, which the second instance has too.
+const NAMED_INSTANCE: &str =
+    "realm 3\nspace w 0..5\nspace Piece_aaac 0..2\nspace right 3..5\ninst a w x,y\n\
+    f = fill a.x right 1\ng = fill a.y right 1\nh = fill a.y Piece_aaac 1\ni = fill a.x Piece_aaac 1\nend\n";
+
 /// Whether the columns of a graph are cut into just these pieces: not at all where there are none.
 fn is_cut(alloc: Global, text: &str, wanted: &[(u32, u32)]) -> Result<bool, Fail> {
     let graph = read_graph(alloc, text.as_bytes())?;
@@ -75,17 +84,32 @@ fn tiles(alloc: Global, count: u32) -> Result<String, AllocError> {
     )
 }
 
-/// Sixteen columns of 64 tiles, and some more lines.
-fn many_tiles(alloc: Global, more: &str) -> Result<String, AllocError> {
+/// So many columns of 64 tiles, which are the same ones, and another column with some more lines.
+fn many_tiles(alloc: Global, columns: u32, more: &str) -> Result<String, AllocError> {
     let spaces = numbered(alloc, 64, "space t# #..#\n")?;
-    let columns = numbered(alloc, 17, "inst a# w x\n")?;
-    let mut fills = String::new(alloc);
-    for column in 0..16u32 {
+    let insts = numbered(alloc, columns, "inst a# w x\n")?;
+    let fills = of_columns(alloc, columns, "f@_# = fill a@.x t# 1\n")?;
+    format!(in alloc; "realm 3\nspace w 0..63\n{spaces}{insts}inst b w x\n{fills}{more}end\n")
+}
+
+/// The same, each column with spaces of its own for its tiles.
+fn own_tiles(alloc: Global, columns: u32, more: &str) -> Result<String, AllocError> {
+    let spaces = of_columns(alloc, columns, "space t@_# #..#\n")?;
+    let insts = numbered(alloc, columns, "inst a# w x\n")?;
+    let fills = of_columns(alloc, columns, "f@_# = fill a@.x t@_# 1\n")?;
+    format!(in alloc; "realm 3\nspace w 0..63\n{spaces}{insts}inst b w x\n{fills}{more}end\n")
+}
+
+/// For each of so many columns 64 copies of a text, with the number of the column in place of each `@`, and that of the copy in place of
+/// each `#`.
+fn of_columns(alloc: Global, columns: u32, each: &str) -> Result<String, AllocError> {
+    let mut text = String::new(alloc);
+    for column in 0..columns {
         let digits = format!(in alloc; "{column}")?;
-        let one = numbered(alloc, 64, "f@_# = fill a@.x t# 1\n")?;
-        fills.push_str(one.replace(alloc, '@', digits.as_str())?.as_str())?;
+        let one = numbered(alloc, 64, each)?;
+        text.push_str(one.replace(alloc, '@', digits.as_str())?.as_str())?;
     }
-    format!(in alloc; "realm 3\nspace w 0..63\n{spaces}{columns}{fills}{more}end\n")
+    Ok(text)
 }
 
 /// How many pieces a graph has; none where it is not cut.
@@ -100,22 +124,24 @@ fn count(alloc: Global, text: &str) -> Result<usize, Fail> {
 #[test]
 fn pieces_of_small_graphs(rt: HostRuntime) -> Result<(), Fail> {
     let alloc = rt.alloc();
-    assert!(rt; is_cut(alloc, CROSSED, &[(0, 5), (1, 6), (2, 4), (2, 3)])?);
+    assert!(rt; is_cut(alloc, CROSSED, &[(2, 3), (2, 4), (0, 5), (1, 6)])?);
     assert!(rt;
         is_cut(
             alloc,
             HALOS,
-            &[(0, 3), (0, 11), (0, 4), (0, 5), (0, 6), (0, 7), (0, 8)]
+            &[(0, 3), (0, 4), (0, 5), (0, 6), (0, 7), (0, 8), (0, 11)]
         )?
     );
     assert!(rt; is_cut(alloc, AROUND, &[(0, 2), (0, 5)])?);
     assert!(rt; is_cut(alloc, TAKEN, &[(0, 3), (0, 4)])?);
-    assert!(rt; is_cut(alloc, LINKED, &[(0, 7), (0, 6)])?);
+    assert!(rt; is_cut(alloc, LINKED, &[(0, 6), (0, 7)])?);
     assert!(rt; is_cut(alloc, NAMED_UNION, &[])?);
     assert!(rt; is_cut(alloc, WITHIN, &[(0, 2), (0, 3)])?);
     assert!(rt; is_cut(alloc, ONE_EACH, &[])?);
     assert!(rt; is_cut(alloc, NAMED, &[])?);
     assert!(rt; is_cut(alloc, NAMED_THIRD, &[(0, 1), (0, 2)])?);
+    assert!(rt; is_cut(alloc, NAMED_FIELD, &[(0, 1), (1, 1), (0, 2), (1, 2)])?);
+    assert!(rt; is_cut(alloc, NAMED_INSTANCE, &[])?);
     Ok(())
 }
 
@@ -123,7 +149,7 @@ fn pieces_of_small_graphs(rt: HostRuntime) -> Result<(), Fail> {
 fn a_column_of_many_tiles_stays_whole(rt: HostRuntime) -> Result<(), Fail> {
     let alloc = rt.alloc();
     let text = tiles(alloc, 65)?;
-    assert!(rt; is_cut(alloc, text.as_str(), &[(0, 0), (1, 2), (1, 1)])?);
+    assert!(rt; is_cut(alloc, text.as_str(), &[(0, 0), (1, 1), (1, 2)])?);
     let text = tiles(alloc, 64)?;
     assert_eq!(rt; count(alloc, text.as_str())?, 66);
     Ok(())
@@ -132,9 +158,19 @@ fn a_column_of_many_tiles_stays_whole(rt: HostRuntime) -> Result<(), Fail> {
 #[test]
 fn no_column_is_cut_where_pieces_are_too_many(rt: HostRuntime) -> Result<(), Fail> {
     let alloc = rt.alloc();
-    let text = many_tiles(alloc, "")?;
-    assert_eq!(rt; count(alloc, text.as_str())?, 1024);
-    let text = many_tiles(alloc, "g = fill a16.x t0 1\n")?;
+    let text = many_tiles(alloc, 64, "")?;
+    assert_eq!(rt; count(alloc, text.as_str())?, 4096);
+    let text = many_tiles(alloc, 64, "g = fill b.x t0 1\n")?;
+    assert_eq!(rt; count(alloc, text.as_str())?, 0);
+    Ok(())
+}
+
+#[test]
+fn no_column_is_cut_where_spaces_of_pieces_are_too_many(rt: HostRuntime) -> Result<(), Fail> {
+    let alloc = rt.alloc();
+    let text = own_tiles(alloc, 16, "g = fill b.x t0_0 1\n")?;
+    assert_eq!(rt; count(alloc, text.as_str())?, 1025);
+    let text = own_tiles(alloc, 16, "g = fill b.x w 1\n")?;
     assert_eq!(rt; count(alloc, text.as_str())?, 0);
     Ok(())
 }

@@ -18,7 +18,7 @@ use Rattle.graph_terms.specs.declared.table.Kernel.TheVariants.{Iota, Stencil, S
 use Rattle.graph_terms.specs.Graph.{GraphValue}
 use Rattle.graph_meaning.specs.Evaluation.{outcome}
 use Rattle.column_pieces.specs.Joined.{joined}
-use Rattle.column_pieces.specs.Pieces.{Unions, Linked, one, piece_space, cut_of, graph_of_pieces, ArePieces, IsConnected, IsWhole}
+use Rattle.column_pieces.specs.Pieces.{Unions, Linked, one, piece_space, piece_decls, cut_of, graph_of_pieces, ArePieces, IsConnected, IsWhole}
 use Rattle.column_pieces.specs.declared.pieces.Piece.{Piece}
 use Rattle.column_pieces.proofs.Components.{connected_by_point}
 use Rattle.column_pieces.proofs.PiecesTable.{connected_by, pieces_by_computing}
@@ -59,6 +59,13 @@ tiles-pieces = pieces_by_computing tiles [] four refl refl
         | inr last ↦ inl (subst (λ (y : Piece). IsConnected tiles y.column (piece_space tiles [] y.space)) (contains_one (piece 1 2) x last) (connected_by tiles (piece 1 2) refl))
       ]
     ]
+
+-- the tiles in the order of their spaces: those of one space share an instance
+abbrev by_tiles : List Piece
+by_tiles = piece 0 1 ∷ piece 1 1 ∷ piece 0 2 ∷ piece 1 2 ∷ []
+
+tiles-shared : piece_decls 0 by_tiles ≡ Inst (codes "Piece_aaaa") 1 (codes "Piece_aaaa" ∷ codes "Piece_aaab" ∷ []) ∷ Inst (codes "Piece_aaac") 2 (codes "Piece_aaac" ∷ codes "Piece_aaad" ∷ []) ∷ []
+tiles-shared = refl
 
 four-cells : columns_of (outcome (graph_of_pieces tiles [] four) []) ≡ over ((0, 2) ∷ []) (4 ∷ 4 ∷ 4 ∷ []) ∷ over ((3, 5) ∷ []) (1 ∷ 2 ∷ 3 ∷ []) ∷ over ((0, 2) ∷ []) (4 ∷ 4 ∷ 4 ∷ []) ∷ over ((3, 5) ∷ []) (1 ∷ 3 ∷ 6 ∷ []) ∷ []
 four-cells = refl

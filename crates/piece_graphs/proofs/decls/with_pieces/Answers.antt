@@ -1,39 +1,42 @@
-use Rattle.std.proofs.Common.{◌≡◌, ◌+◌, ◌≤◌, ◌<◌, ◌∙◌, refl, sym, ap, length, append-nil, arith}
+use Rattle.std.proofs.Common.{◌+◌, ◌∙◌, ◌<◌, sym, subst, length, arith}
+use Rattle.std.specs.Prelude.{slice_index_or}
+use Rattle.std.proofs.lemmas.Option.{slice_get-get_or}
 use Rattle.graph_terms.specs.Graph.{GraphValue}
-use Rattle.piece_graphs.specs.Items.{of_decls}
-use Rattle.piece_graphs.proofs.Items.{piece_next, piece_refused, pieces_all}
+use Rattle.column_pieces.specs.declared.pieces.Piece.{Piece}
+use Rattle.piece_graphs.proofs.Instances.{AreRuns, no_runs, run_put, run_refused, run_longer, all_runs}
 use Rattle.piece_graphs.proofs.decls.with_pieces.Goals as goal
+use Rattle.piece_graphs.proofs.decls.with_pieces.Goals.{then-is_last+in_ok-decl+in_ok-offer_decl+else-not-branch, else-is_last}
 
-pub loop-piece-init : goal.loop-piece-init
-loop-piece-init c = record {
-  number = refl;
-  cut = c.requires.bare ∙ ap of_decls (sym (append-nil c.args.cut.decls));
-}
-
-pub offer_decl-requires-clause-three : goal.offer_decl-requires-clause-three
-offer_decl-requires-clause-three c = ap (λ (x : GraphValue). x.format) c.loop-piece.invariant.cut
-
-pub offer_decl-requires-clause-first : goal.offer_decl-requires-clause-first
-offer_decl-requires-clause-first c = ap (λ (x : GraphValue). x.lines) c.loop-piece.invariant.cut
+pub loop-k-init : goal.loop-k-init
+loop-k-init c = no_runs c.args.cut c.args.pieces.now c.requires.bare
 
 pub returns-then-not-branch-clause-none : goal.returns-then-not-branch-clause-none
 returns-then-not-branch-clause-none c = λ none fits.
-    piece_refused c.loop-piece.cut c.args.cut.decls c.args.pieces.now c.loop-piece.piece-index c.loop-piece.k _ c.in_ok-decl.decl
-    c.loop-piece-test.true c.loop-piece.invariant.number c.loop-piece.invariant.cut c.in_ok-decl.ensures (c.in_ok-offer_decl.ensures.unfit c.if-not-branch.true) fits
+    let xs = c.args.pieces.now in
+    let k = c.loop-k.k in
+    let no_piece : Piece = record { column = 0; space = 0 } in
+    run_refused c.loop-k.cut c.args.cut.decls xs c.loop-k.first k (slice_index_or xs k no_piece) c.in_ok-decl.decl c.loop-k.invariant (slice_get-get_or xs k no_piece (omega (arith, c.loop-k-test.true)))
+    (sym c.is_last.ensures ∙ c.if-is_last.true) c.in_ok-decl.ensures (c.in_ok-offer_decl.ensures.unfit c.if-not-branch.true) fits
 
-pub overflow_add-k : goal.overflow_add-k
-overflow_add-k c =
-    let few : length c.args.pieces.now ≤ 1024 = c.requires.few in
-    let number : c.loop-piece.k ≡ c.loop-piece.piece-index = c.loop-piece.invariant.number in
-    let below : c.loop-piece.piece-index < length c.args.pieces.now = c.loop-piece-test.true in
-    omega arith
-
-pub loop-piece-preserved : goal.loop-piece-preserved
-loop-piece-preserved c = record {
-  number = ap (λ n. n + 1) c.loop-piece.invariant.number;
-  cut = piece_next c.loop-piece.cut c.offer_decl.new.graph c.args.cut.decls c.args.pieces.now c.loop-piece.piece-index c.loop-piece.k _ c.in_ok-decl.decl
-      c.loop-piece-test.true c.loop-piece.invariant.number c.loop-piece.invariant.cut c.in_ok-decl.ensures (c.in_ok-offer_decl.ensures.fits c.if-not-branch.false);
-}
+pub loop-k-preserved : goal.loop-k-preserved
+loop-k-preserved c =
+    let xs = c.args.pieces.now in
+    let ds = c.args.cut.decls in
+    let k = c.loop-k.k in
+    let no_piece : Piece = record { column = 0; space = 0 } in
+    let z = slice_index_or xs k no_piece in
+    let below : k < length xs = omega (arith, c.loop-k-test.true) in
+    elim c.if-is_last.branch [
+      | then-is_last+in_ok-decl+in_ok-offer_decl+else-not-branch w ↦
+          subst (λ (g : GraphValue). AreRuns g ds xs c.if-is_last.first (k + 1)) (sym w.cut-is)
+          (subst (λ n. AreRuns w.offer_decl.new.graph ds xs n (k + 1)) (sym w.first-is)
+          (run_put c.loop-k.cut w.offer_decl.new.graph ds xs c.loop-k.first k z w.in_ok-decl.decl c.loop-k.invariant (slice_get-get_or xs k no_piece below) (sym c.is_last.ensures ∙ w.if-is_last.true) w.in_ok-decl.ensures
+          (w.in_ok-offer_decl.ensures.fits w.if-not-branch.false)))
+      | else-is_last w ↦
+          subst (λ (g : GraphValue). AreRuns g ds xs c.if-is_last.first (k + 1)) (sym w.cut-is)
+          (subst (λ n. AreRuns c.loop-k.cut ds xs n (k + 1)) (sym w.first-is)
+          (run_longer c.loop-k.cut ds xs c.loop-k.first k z c.loop-k.invariant (slice_get-get_or xs k no_piece below) (sym c.is_last.ensures ∙ w.if-is_last.false)))
+    ]
 
 pub returns-clause-some : goal.returns-clause-some
-returns-clause-some c = c.loop-piece.invariant.cut ∙ ap of_decls (pieces_all c.args.cut.decls c.args.pieces.now c.loop-piece.piece-index c.loop-piece-test.false)
+returns-clause-some c = all_runs c.loop-k.cut c.args.cut.decls c.args.pieces.now c.loop-k.first c.loop-k.k c.loop-k.invariant (omega (arith, c.loop-k-test.false))

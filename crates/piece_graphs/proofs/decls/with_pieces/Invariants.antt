@@ -1,10 +1,5 @@
-use Rattle.std.proofs.Common.{◌≡◌, ◌++◌, take}
-use Rattle.column_pieces.specs.Pieces.{piece_decls}
-use Rattle.piece_graphs.specs.Items.{of_decls}
+use Rattle.piece_graphs.proofs.Instances.{AreRuns}
 use Rattle.piece_graphs.proofs.decls.with_pieces.Given as goal
 
-abbrev pub invariant-loop-piece : goal.invariant-loop-piece
-invariant-loop-piece l = record {
-  number : l.k ≡ l.piece-index;
-  cut : l.cut ≡ of_decls (l.fn.cut.decls ++ take l.piece-index (piece_decls 0 l.pieces));
-}
+abbrev pub invariant-loop-k : goal.invariant-loop-k
+invariant-loop-k l = AreRuns l.cut l.fn.cut.decls l.pieces l.first l.k

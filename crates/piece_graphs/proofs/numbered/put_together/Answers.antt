@@ -1,4 +1,4 @@
-use Rattle.std.proofs.Common.{◌≡◌, ◌+◌, ◌≤◌, ◌<◌, ◌++◌, ◌∙◌, refl, sym, ap, length, take, arith}
+use Rattle.std.proofs.Common.{◌≡◌, ◌+◌, ◌≤◌, ◌++◌, ◌∙◌, refl, sym, ap, length, take, arith}
 use Rattle.std.proofs.lemmas.Option.{slice_get_read}
 use Rattle.piece_graphs.specs.Numbered.{all_pieces}
 use Rattle.piece_graphs.proofs.Numbers.{all_more, all_taken, some_of_all}

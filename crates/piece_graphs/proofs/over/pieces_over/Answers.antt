@@ -1,5 +1,5 @@
-use Rattle.std.proofs.Common.{◌≡◌, [], ◌<◌, ◌≤◌, ◌∙◌, refl, ap, sym, subst, length, map, arith}
-use Rattle.std.specs.Prelude.{Some, Vec, Contains, slice_get}
+use Rattle.std.proofs.Common.{[], ◌<◌, ◌≤◌, refl, sym, subst, length, arith}
+use Rattle.std.specs.Prelude.{Vec, Contains}
 use Rattle.std.specs.Global.{Global}
 use Rattle.std.proofs.lemmas.List.{length-map}
 use Rattle.std.proofs.lemmas.Option.{slice_get_read}
