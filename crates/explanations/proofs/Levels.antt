@@ -13,9 +13,11 @@ use Rattle.graph_meaning.specs.Laws.{EdgesBetweenLines}
 use Rattle.explanations.specs.declared.search.Way.{Way}
 use Rattle.explanations.specs.declared.search.Way.TheVariants.{Onward, Back, Faults}
 use Rattle.basics.proofs.ListFacts.{contains_none, filter_contains, contains_filter}
-use Rattle.explanations.specs.Search.{near_end, far_end, way_edges, AreCounts, IsMarking, IsFarEnd, IsFarEndOfSome}
+use Rattle.line_marks.specs.Marking.{IsMarking}
+use Rattle.explanations.specs.Search.{near_end, far_end, way_edges, AreCounts, IsFarEnd, IsFarEndOfSome}
 use Rattle.graph_terms.specs.declared.outcome.End.{End}
-use Rattle.explanations.proofs.Marking.{no_edge, some_or, counted_below, marks_more, follow_in, in_follow}
+use Rattle.line_marks.proofs.Public.{marks_more}
+use Rattle.explanations.proofs.Marking.{no_edge, some_or, counted_below, follow_in, in_follow}
 
 -- the ends of an edge are lines
 pub ends_known : EdgesBetweenLines → (g : GraphValue) → IsGraph g → (way : Way) (e : Edge) → Contains (edges g) e → (near_end way e < length g.lines) × (far_end way e < length g.lines)

@@ -1,5 +1,5 @@
 -- Searches from some lines along edges, and what they leave: for each line how many lines stand on the way to it, where that way begins, and its last edge.
-use Rattle.std.specs.Prelude.{◌≡◌, ◌≢◌, ℕ, ◌+◌, ◌-◌, ◌<◌, ◌≤◌, ◌==◌, ◌⊎◌, Bool, true, false, cond, List, [], ◌∷◌, length, filter, Contains, count_by, slice_index, Option, Some, None, MatchOption}
+use Rattle.std.specs.Prelude.{◌≡◌, ◌≢◌, ℕ, ◌+◌, ◌-◌, ◌<◌, ◌≤◌, ◌==◌, ◌⊎◌, Bool, true, false, cond, List, [], ◌∷◌, length, filter, Contains, slice_index, Option, Some, None, MatchOption}
 use Rattle.std.specs.List.{slice_index_or}
 use Rattle.graph_terms.specs.declared.verb.Edge.{Edge}
 use Rattle.graph_terms.specs.declared.outcome.End.{End}
@@ -64,20 +64,6 @@ pub record AreOrigins (all : List Edge) (near far : Edge → ℕ) (starts counts
 -- how a line with this count and this origin is reached
 abbrev pub reach_of : ℕ → Origin → Option Reach
 reach_of count o = cond (count == 0) None (Some (record { start = o.start; steps = count - 1; by = o.by }))
-
--- how many lines are not found
-abbrev pub unfound : List ℕ → ℕ
-unfound counts = count_by (λ n. n == 0) counts
-
--- these lines are found now: those that were not before got this count, and are put on the list
-pub record IsMarking (targets : ℕ → Type 0) (count : ℕ) (old before new after : List ℕ) : Type 0 where
-  pub size : length new ≡ length old
-  pub keeps : (i : ℕ) → 0 < slice_index old i → slice_index new i ≡ slice_index old i
-  pub marks : (i : ℕ) → slice_index old i ≡ 0 → 0 < slice_index new i → (slice_index new i ≡ count) × targets i × Contains after i
-  pub covers : (i : ℕ) → targets i → 0 < slice_index new i
-  pub stays : (i : ℕ) → Contains before i → Contains after i
-  pub fresh : (i : ℕ) → Contains after i → Contains before i ⊎ ((slice_index old i ≡ 0) × (0 < slice_index new i))
-  pub work : unfound new + length after ≡ unfound old + length before
 
 -- one of these edges has its far end at line i
 abbrev pub IsFarEnd : List Edge → (Edge → ℕ) → ℕ → Type 0

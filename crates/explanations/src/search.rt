@@ -1,19 +1,21 @@
 //! Searches from some lines, edge by edge, for how far the other lines are from these, and by which edges they are found.
 
-ghost use Rattle.std.specs.Prelude.{◌≡◌, ℕ, ◌+◌, ◌<◌, ◌==◌, List, filter, length, Contains, slice_index, OnOk, IfOk};
+ghost use Rattle.std.specs.Prelude.{◌≡◌, ℕ, ◌+◌, ◌<◌, ◌==◌, List, [], filter, length, Contains, slice_index, OnOk, IfOk};
 ghost use Rattle.graph_terms.specs.declared.verb.Edge.{Edge};
 ghost use Rattle.graph_terms.specs.declared.verb.EdgeKind.{EdgeKind};
 ghost use Rattle.graph_terms.specs.Edges.{edges};
 ghost use Rattle.graph_meaning.specs.Evaluation.{cancels, is_ended};
+ghost use Rattle.line_marks.specs.Marking.{IsMarking};
 ghost use Rattle.explanations.specs.Reaches.{end_at, carries};
-ghost use Rattle.explanations.specs.Search.{near_end, far_end, follows, way_edges, origin_at, no_origin, AreCounts, AreOrigins, IsOrigin, IsMarking, IsFarEnd, IsFarEndOfSome};
+ghost use Rattle.explanations.specs.Search.{near_end, far_end, follows, way_edges, origin_at, no_origin, AreCounts, AreOrigins, IsOrigin, IsFarEnd, IsFarEndOfSome};
 
 use graph_meaning::laws::edges_between_lines;
 use graph_model::graph::Graph;
 use graph_terms::outcome::End;
 use graph_terms::verb::{Edge, EdgeKind};
 use index_spaces::NoMemory;
-use index_spaces::room::{filled, push};
+use index_spaces::room::filled;
+use line_marks::Marks;
 use std::alloc::Global;
 use std::mem;
 
@@ -137,68 +139,77 @@ pub(crate) fn search_from(
     let mut search = Search::new(alloc, graph)?;
     search.find_starts(starts)?;
     let mut count = 1;
-    'levels: while !search.found.is_empty() {
-        let level = mem::replace(&mut search.found, Vec::new(alloc));
+    'levels: while !search.marks.pending.is_empty() {
+        let level = mem::replace(&mut search.marks.pending, Vec::new(alloc));
         count += 1;
         search.follow_all(graph, way, ends, level.as_slice(), count)?;
     }
-    Ok(search.tree)
+    Ok(search.into_tree())
 }
 
-/// A search under way: what it leaves so far, and the lines that the last step found.
+/// A search under way: how far lines are by their marks, the lines that the last step found, and the
+/// origins of lines.
 #[derive(Drop)]
 struct Search {
-    tree: Tree,
-    found: Vec<u32>,
+    marks: Marks,
+    origins: Vec<Origin>,
 }
 
 impl Search {
     /// No line is found.
     fn new(alloc: Global, graph: &Graph) -> Result<Search, NoMemory>
-        ensures size { IfOk result (λ s. length s.tree.counts.items ≡ length graph.now.lines) }
-        ensures none { IfOk result (λ s. (i : ℕ) → slice_index s.tree.counts.items i ≡ 0) }
-        ensures origins { IfOk result (λ s. length s.tree.origins.items ≡ length graph.now.lines) }
-        ensures found { IfOk result (λ s. length s.found.items ≡ 0) }
+        ensures size { IfOk result (λ s. length s.marks.by_line.items ≡ length graph.now.lines) }
+        ensures none { IfOk result (λ s. (i : ℕ) → slice_index s.marks.by_line.items i ≡ 0) }
+        ensures origins { IfOk result (λ s. length s.origins.items ≡ length graph.now.lines) }
+        ensures pending { IfOk result (λ s. s.marks.pending.items ≡ []) }
     {
-        let counts = filled(alloc, 0, graph.lines() as usize)?;
+        let marks = Marks::new(alloc, graph.lines() as usize)?;
         let none = Origin { start: 0, by: None };
         let origins = filled(alloc, none, graph.lines() as usize)?;
-        Ok(Search {
-            tree: Tree { counts, origins },
-            found: Vec::new(alloc),
-        })
+        Ok(Search { marks, origins })
+    }
+
+    /// What it leaves.
+    fn into_tree(self) -> Tree
+        ensures counts { result.counts ≡ self.marks.by_line }
+        ensures origins { result.origins ≡ self.origins }
+    {
+        let Search { marks, origins } = self;
+        let Marks { by_line, .. } = marks;
+        Tree {
+            counts: by_line,
+            origins,
+        }
     }
 
     /// Finds a line, where it was not found before.
     fn find(&mut self, line: u32, count: u32, origin: Origin) -> Result<(), NoMemory>
-        requires known { line < length self.old.tree.counts.items }
-        requires size { length self.old.tree.origins.items ≡ length self.old.tree.counts.items }
+        requires known { line < length self.old.marks.by_line.items }
+        requires size { length self.old.origins.items ≡ length self.old.marks.by_line.items }
         requires some { 0 < count }
         ensures marking { OnOk result
-            (IsMarking (λ i. i ≡ line) count self.old.tree.counts.items self.old.found.items self.new.tree.counts.items self.new.found.items) }
-        ensures size { OnOk result (length self.new.tree.origins.items ≡ length self.old.tree.origins.items) }
+            (IsMarking (λ i. i ≡ line) count self.old.marks.by_line.items self.old.marks.pending.items self.new.marks.by_line.items self.new.marks.pending.items) }
+        ensures size { OnOk result (length self.new.origins.items ≡ length self.old.origins.items) }
         ensures origins { OnOk result ((all : List Edge) (near far : Edge → ℕ) (starts : List ℕ)
-            → IsOrigin all near far starts self.old.tree.counts.items self.old.tree.origins.items line count origin
-            → AreOrigins all near far starts self.old.tree.counts.items self.old.tree.origins.items
-            → AreOrigins all near far starts self.new.tree.counts.items self.new.tree.origins.items) }
+            → IsOrigin all near far starts self.old.marks.by_line.items self.old.origins.items line count origin
+            → AreOrigins all near far starts self.old.marks.by_line.items self.old.origins.items
+            → AreOrigins all near far starts self.new.marks.by_line.items self.new.origins.items) }
     {
-        if self.tree.counts[line as usize] == 0 {
-            push(&mut self.found, line)?;
-            self.tree.counts[line as usize] = count;
-            self.tree.origins[line as usize] = origin;
+        if self.marks.mark(line, count)? {
+            self.origins[line as usize] = origin;
         }
         Ok(())
     }
 
     /// Finds the lines with which a search begins.
     fn find_starts(&mut self, starts: &[u32]) -> Result<(), NoMemory>
-        requires known { (i : ℕ) → Contains starts.now i → i < length self.old.tree.counts.items }
-        requires none { (i : ℕ) → slice_index self.old.tree.counts.items i ≡ 0 }
-        requires size { length self.old.tree.origins.items ≡ length self.old.tree.counts.items }
+        requires known { (i : ℕ) → Contains starts.now i → i < length self.old.marks.by_line.items }
+        requires none { (i : ℕ) → slice_index self.old.marks.by_line.items i ≡ 0 }
+        requires size { length self.old.origins.items ≡ length self.old.marks.by_line.items }
         ensures marking { OnOk result
-            (IsMarking (Contains starts.now) 1 self.old.tree.counts.items self.old.found.items self.new.tree.counts.items self.new.found.items) }
+            (IsMarking (Contains starts.now) 1 self.old.marks.by_line.items self.old.marks.pending.items self.new.marks.by_line.items self.new.marks.pending.items) }
         ensures origins { OnOk result ((all : List Edge) (near far : Edge → ℕ)
-            → AreOrigins all near far starts.now self.new.tree.counts.items self.new.tree.origins.items) }
+            → AreOrigins all near far starts.now self.new.marks.by_line.items self.new.origins.items) }
     {
         for line in starts {
             let own = Origin {
@@ -220,17 +231,17 @@ impl Search {
         count: u32,
     ) -> Result<(), NoMemory>
         requires known { line < length graph.now.lines }
-        requires size { length self.old.tree.counts.items ≡ length graph.now.lines }
-        requires origins_size { length self.old.tree.origins.items ≡ length graph.now.lines }
-        requires some { 0 < slice_index self.old.tree.counts.items line }
-        requires next { count ≡ slice_index self.old.tree.counts.items line + 1 }
+        requires size { length self.old.marks.by_line.items ≡ length graph.now.lines }
+        requires origins_size { length self.old.origins.items ≡ length graph.now.lines }
+        requires some { 0 < slice_index self.old.marks.by_line.items line }
+        requires next { count ≡ slice_index self.old.marks.by_line.items line + 1 }
         ensures marking { OnOk result
             (IsMarking (IsFarEnd (way_edges way ends.now (filter (λ e. near_end way e == line) (edges graph.now))) (far_end way)) count
-            self.old.tree.counts.items self.old.found.items self.new.tree.counts.items self.new.found.items) }
-        ensures origins_size { OnOk result (length self.new.tree.origins.items ≡ length graph.now.lines) }
+            self.old.marks.by_line.items self.old.marks.pending.items self.new.marks.by_line.items self.new.marks.pending.items) }
+        ensures origins_size { OnOk result (length self.new.origins.items ≡ length graph.now.lines) }
         ensures origins { OnOk result ((starts : List ℕ)
-            → AreOrigins (way_edges way ends.now (edges graph.now)) (near_end way) (far_end way) starts self.old.tree.counts.items self.old.tree.origins.items
-            → AreOrigins (way_edges way ends.now (edges graph.now)) (near_end way) (far_end way) starts self.new.tree.counts.items self.new.tree.origins.items) }
+            → AreOrigins (way_edges way ends.now (edges graph.now)) (near_end way) (far_end way) starts self.old.marks.by_line.items self.old.origins.items
+            → AreOrigins (way_edges way ends.now (edges graph.now)) (near_end way) (far_end way) starts self.new.marks.by_line.items self.new.origins.items) }
     {
         edges_between_lines();
         let _ = graph.lines();
@@ -238,7 +249,7 @@ impl Search {
         for edge in edges {
             if follows(way, ends, *edge) {
                 let origin = Origin {
-                    start: self.tree.origins[line as usize].start,
+                    start: self.origins[line as usize].start,
                     by: Some(*edge),
                 };
                 let found = far_end(way, *edge);
@@ -258,17 +269,17 @@ impl Search {
         count: u32,
     ) -> Result<(), NoMemory>
         requires known { (i : ℕ) → Contains level.now i → i < length graph.now.lines }
-        requires size { length self.old.tree.counts.items ≡ length graph.now.lines }
-        requires origins_size { length self.old.tree.origins.items ≡ length graph.now.lines }
+        requires size { length self.old.marks.by_line.items ≡ length graph.now.lines }
+        requires origins_size { length self.old.origins.items ≡ length graph.now.lines }
         requires some { 1 < count }
-        requires next { (i : ℕ) → Contains level.now i → count ≡ slice_index self.old.tree.counts.items i + 1 }
+        requires next { (i : ℕ) → Contains level.now i → count ≡ slice_index self.old.marks.by_line.items i + 1 }
         ensures marking { OnOk result
             (IsMarking (IsFarEndOfSome (way_edges way ends.now (edges graph.now)) (near_end way) (far_end way) level.now) count
-            self.old.tree.counts.items self.old.found.items self.new.tree.counts.items self.new.found.items) }
-        ensures origins_size { OnOk result (length self.new.tree.origins.items ≡ length graph.now.lines) }
+            self.old.marks.by_line.items self.old.marks.pending.items self.new.marks.by_line.items self.new.marks.pending.items) }
+        ensures origins_size { OnOk result (length self.new.origins.items ≡ length graph.now.lines) }
         ensures origins { OnOk result ((starts : List ℕ)
-            → AreOrigins (way_edges way ends.now (edges graph.now)) (near_end way) (far_end way) starts self.old.tree.counts.items self.old.tree.origins.items
-            → AreOrigins (way_edges way ends.now (edges graph.now)) (near_end way) (far_end way) starts self.new.tree.counts.items self.new.tree.origins.items) }
+            → AreOrigins (way_edges way ends.now (edges graph.now)) (near_end way) (far_end way) starts self.old.marks.by_line.items self.old.origins.items
+            → AreOrigins (way_edges way ends.now (edges graph.now)) (near_end way) (far_end way) starts self.new.marks.by_line.items self.new.origins.items) }
     {
         for line in level {
             self.follow(graph, way, ends, *line, count)?;

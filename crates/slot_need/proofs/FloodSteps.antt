@@ -14,9 +14,10 @@ use Rattle.graph_terms.specs.Reservations.{Acquires, Releases}
 use Rattle.graph_terms.specs.Fits.{IsGraph}
 use Rattle.graph_meaning.specs.Laws.{EdgesBetweenLines}
 use Rattle.basics.proofs.ListFacts.{contains_none, contains_cases, contains_here, contains_there, filter_contains, contains_filter}
-use Rattle.slot_need.specs.High.{IsMarking, IsTarget, IsNext, AreAcquiresMarked, IsFlooded, IsFlooding, IsFlood, weight_of}
+use Rattle.line_marks.specs.Marking.{IsMarking}
+use Rattle.line_marks.proofs.Public.{marks_as, marks_more}
+use Rattle.slot_need.specs.High.{IsTarget, IsNext, AreAcquiresMarked, IsFlooded, IsFlooding, IsFlood, weight_of}
 use Rattle.graph_terms.proofs.Public.{acquire_is, release_is, passes_below}
-use Rattle.slot_need.proofs.FloodMarks.{marks_as, marks_more}
 use Rattle.slot_need.proofs.HighFlood.{release_edge, release_edge_is, zero_or, flooding_begins, flooding_more, flooding_ends, flood_passed_over, flooded_is_high, flooding_as, flooded_as, never_is_heaviest, later_is_heavier}
 
 -- an edge out of a line is an edge of the need, and the other way where it is no added one

@@ -1,25 +1,11 @@
 -- The marks of a flood, of which 0 is none.
-use Rattle.std.specs.Prelude.{◌≡◌, ℕ, ◌+◌, ◌<◌, ◌==◌, ◌≤◌, ◌⊎◌, Bool, true, false, cond, List, [], length, Some, Vec, Contains, count_by, slice_get, slice_index}
+use Rattle.std.specs.Prelude.{◌≡◌, ℕ, ◌+◌, ◌<◌, ◌≤◌, ◌⊎◌, Bool, true, false, cond, List, [], length, Some, Vec, Contains, slice_get, slice_index}
 use Rattle.std.specs.Global.{Global}
 use Rattle.std.specs.List.{slice_index_or}
 use Rattle.graph_terms.specs.declared.verb.Edge.{Edge}
 use Rattle.graph_terms.specs.Graph.{GraphValue, never_comes, locks}
 use Rattle.graph_terms.specs.Reservations.{Acquires}
 use Rattle.graph_meaning.specs.Need.{need_edges, Precedes}
-
--- how many lines have no mark
-abbrev pub unmarked : List ℕ → ℕ
-unmarked marks = count_by (λ m. m == 0) marks
-
--- these targets have a mark now: those that had none got this one, and stand on the stack
-pub record IsMarking (targets : ℕ → Type 0) (mark : ℕ) (old waiting new stack : List ℕ) : Type 0 where
-  pub size : length new ≡ length old
-  pub keeps : (i : ℕ) → 0 < slice_index old i → slice_index new i ≡ slice_index old i
-  pub marks : (i : ℕ) → slice_index old i ≡ 0 → 0 < slice_index new i → (slice_index new i ≡ mark) × targets i × Contains stack i
-  pub covers : (i : ℕ) → targets i → 0 < slice_index new i
-  pub stays : (i : ℕ) → Contains waiting i → Contains stack i
-  pub fresh : (i : ℕ) → Contains stack i → Contains waiting i ⊎ ((slice_index old i ≡ 0) × (0 < slice_index new i))
-  pub work : unmarked new + length stack ≡ unmarked old + length waiting
 
 -- an edge of the list leads to a line
 abbrev pub IsTarget : List Edge → ℕ → Type 0

@@ -5,13 +5,15 @@ ghost use Rattle.graph_terms.specs.Graph.{locks, never_comes};
 ghost use Rattle.graph_terms.specs.Edges.{edges_out_of};
 ghost use Rattle.graph_terms.specs.Reservations.{Acquires};
 ghost use Rattle.graph_meaning.specs.Need.{IsHigh};
-ghost use Rattle.slot_need.specs.High.{IsMarking, IsTarget, IsNext, AreAcquires, AreAcquiresMarked, weight_of, IsFlooding, IsFlood};
+ghost use Rattle.line_marks.specs.Marking.{IsMarking};
+ghost use Rattle.slot_need.specs.High.{IsTarget, IsNext, AreAcquires, AreAcquiresMarked, weight_of, IsFlooding, IsFlood};
 
 use crate::reservations::{acquires_of_all, freed};
 use graph_meaning::laws::edges_between_lines;
 use graph_model::graph::Graph;
 use index_spaces::NoMemory;
-use index_spaces::room::{filled, push};
+use index_spaces::room::push;
+use line_marks::Marks;
 use std::alloc::Global;
 
 /// The high number of each line: the largest count of the lines that precede it, and one more than
@@ -24,7 +26,7 @@ pub(crate) fn high_numbers(alloc: Global, graph: &Graph) -> Result<Vec<u32>, NoM
     let mut flood = Flood::new(alloc, graph)?;
     flood.reach_from_unended(graph, acquires.as_slice())?;
     flood.reach_from_all(graph, acquires.as_slice())?;
-    Ok(flood.marks.highs)
+    Ok(flood.marks.by_line)
 }
 
 /// What a line counts for.
@@ -40,91 +42,41 @@ fn weight(graph: &Graph, line: u32) -> u32
     }
 }
 
-/// The marks of lines, 0 for none, and the marked lines whose edges are still to be followed.
-#[derive(Drop)]
-struct Marks {
-    highs: Vec<u32>,
-    stack: Vec<u32>,
+/// Marks the lines that the edges of a line lead to.
+fn mark_targets(marks: &mut Marks, graph: &Graph, line: u32, mark: u32) -> Result<(), NoMemory>
+    requires known { line < length graph.now.lines }
+    requires size { length marks.old.by_line.items ≡ length graph.now.lines }
+    requires some { 0 < mark }
+    ensures { OnOk result
+        (IsMarking (IsTarget (edges_out_of graph.now line)) mark marks.old.by_line.items marks.old.pending.items
+        marks.new.by_line.items marks.new.pending.items) }
+{
+    edges_between_lines();
+    let _ = graph.lines();
+    let edges = graph.edges_from(line);
+    for edge in edges {
+        marks.mark(edge.to, mark)?;
+    }
+    Ok(())
 }
 
-impl Marks {
-    /// No line is marked.
-    fn new(alloc: Global, graph: &Graph) -> Result<Marks, NoMemory>
-        ensures size { IfOk result (λ m. length m.highs.items ≡ length graph.now.lines) }
-        ensures none { IfOk result (λ m. (i : ℕ) → slice_index m.highs.items i ≡ 0) }
-        ensures stack { IfOk result (λ m. m.stack.items ≡ []) }
-    {
-        let highs = filled(alloc, 0, graph.lines() as usize)?;
-        Ok(Marks {
-            highs,
-            stack: Vec::new(alloc),
-        })
-    }
-
-    /// Marks a line that has no mark.
-    fn mark(&mut self, line: u32, mark: u32) -> Result<(), NoMemory>
-        requires known { line < length self.old.highs.items }
-        requires some { 0 < mark }
-        ensures { OnOk result
-            (IsMarking (λ i. i ≡ line) mark self.old.highs.items self.old.stack.items self.new.highs.items self.new.stack.items) }
-    {
-        if self.highs[line as usize] == 0 {
-            push(&mut self.stack, line)?;
-            self.highs[line as usize] = mark;
-        }
-        Ok(())
-    }
-
-    /// Marks the lines that the edges of a line lead to.
-    fn mark_targets(&mut self, graph: &Graph, line: u32, mark: u32) -> Result<(), NoMemory>
-        requires known { line < length graph.now.lines }
-        requires size { length self.old.highs.items ≡ length graph.now.lines }
-        requires some { 0 < mark }
-        ensures { OnOk result
-            (IsMarking (IsTarget (edges_out_of graph.now line)) mark self.old.highs.items self.old.stack.items
-            self.new.highs.items self.new.stack.items) }
-    {
-        edges_between_lines();
-        let _ = graph.lines();
-        let edges = graph.edges_from(line);
-        for edge in edges {
-            self.mark(edge.to, mark)?;
-        }
-        Ok(())
-    }
-
-    /// Marks the acquires of a reservation.
-    fn mark_acquires(
-        &mut self,
-        graph: &Graph,
-        acquires: &[Vec<u32>],
-        lock: u32,
-        mark: u32,
-    ) -> Result<(), NoMemory>
-        requires lists { AreAcquires graph.now acquires.now (length graph.now.lines) }
-        requires lock { lock < length (locks graph.now) }
-        requires size { length self.old.highs.items ≡ length graph.now.lines }
-        requires some { 0 < mark }
-        ensures { OnOk result
-            (IsMarking (λ i. Acquires graph.now i lock) mark self.old.highs.items self.old.stack.items
-            self.new.highs.items self.new.stack.items) }
-    {
-        self.mark_all(acquires[lock as usize].as_slice(), mark)
-    }
-
-    /// Marks the lines of a list.
-    fn mark_all(&mut self, lines: &[u32], mark: u32) -> Result<(), NoMemory>
-        requires known { (i : ℕ) → Contains lines.now i → i < length self.old.highs.items }
-        requires some { 0 < mark }
-        ensures { OnOk result
-            (IsMarking (Contains lines.now) mark self.old.highs.items self.old.stack.items
-            self.new.highs.items self.new.stack.items) }
-    {
-        for line in lines {
-            self.mark(*line, mark)?;
-        }
-        Ok(())
-    }
+/// Marks the acquires of a reservation.
+fn mark_acquires(
+    marks: &mut Marks,
+    graph: &Graph,
+    acquires: &[Vec<u32>],
+    lock: u32,
+    mark: u32,
+) -> Result<(), NoMemory>
+    requires lists { AreAcquires graph.now acquires.now (length graph.now.lines) }
+    requires lock { lock < length (locks graph.now) }
+    requires size { length marks.old.by_line.items ≡ length graph.now.lines }
+    requires some { 0 < mark }
+    ensures { OnOk result
+        (IsMarking (λ i. Acquires graph.now i lock) mark marks.old.by_line.items marks.old.pending.items
+        marks.new.by_line.items marks.new.pending.items) }
+{
+    marks.mark_all(acquires[lock as usize].as_slice(), mark)
 }
 
 /// A flood, with a note of each reservation whose acquires are marked.
@@ -137,9 +89,9 @@ struct Flood {
 impl Flood {
     /// No line is marked.
     fn new(alloc: Global, graph: &Graph) -> Result<Flood, NoMemory>
-        ensures { IfOk result (λ f. IsFlood graph.now (λ m. false) f.marks.highs.items f.marks.stack.items f.noted.items) }
+        ensures { IfOk result (λ f. IsFlood graph.now (λ m. false) f.marks.by_line.items f.marks.pending.items f.noted.items) }
     {
-        let marks = Marks::new(alloc, graph)?;
+        let marks = Marks::new(alloc, graph.lines() as usize)?;
         let mut noted = Vec::new(alloc);
         for _lock in 0..graph.locks() {
             push(&mut noted, false)?;
@@ -150,9 +102,9 @@ impl Flood {
     /// Floods from the lines that never come.
     fn reach_from_unended(&mut self, graph: &Graph, acquires: &[Vec<u32>]) -> Result<(), NoMemory>
         requires lists { AreAcquires graph.now acquires.now (length graph.now.lines) }
-        requires flood { IsFlood graph.now (λ m. false) self.old.marks.highs.items self.old.marks.stack.items self.old.noted.items }
+        requires flood { IsFlood graph.now (λ m. false) self.old.marks.by_line.items self.old.marks.pending.items self.old.noted.items }
         ensures { OnOk result
-            (IsFlood graph.now (never_comes graph.now) self.new.marks.highs.items self.new.marks.stack.items self.new.noted.items) }
+            (IsFlood graph.now (never_comes graph.now) self.new.marks.by_line.items self.new.marks.pending.items self.new.noted.items) }
     {
         for line in 0..graph.lines() {
             if graph.never_comes(line) {
@@ -165,9 +117,9 @@ impl Flood {
     /// Floods from the other lines, the last one first.
     fn reach_from_all(&mut self, graph: &Graph, acquires: &[Vec<u32>]) -> Result<(), NoMemory>
         requires lists { AreAcquires graph.now acquires.now (length graph.now.lines) }
-        requires flood { IsFlood graph.now (never_comes graph.now) self.old.marks.highs.items self.old.marks.stack.items self.old.noted.items }
-        ensures size { OnOk result (length self.new.marks.highs.items ≡ length graph.now.lines) }
-        ensures high { OnOk result ((i : ℕ) → i < length graph.now.lines → IsHigh graph.now i (slice_index self.new.marks.highs.items i)) }
+        requires flood { IsFlood graph.now (never_comes graph.now) self.old.marks.by_line.items self.old.marks.pending.items self.old.noted.items }
+        ensures size { OnOk result (length self.new.marks.by_line.items ≡ length graph.now.lines) }
+        ensures high { OnOk result ((i : ℕ) → i < length graph.now.lines → IsHigh graph.now i (slice_index self.new.marks.by_line.items i)) }
     {
         edges_between_lines();
         let mut line = graph.lines();
@@ -185,13 +137,13 @@ impl Flood {
         requires lists { AreAcquires graph.now acquires.now (length graph.now.lines) }
         requires known { line < length graph.now.lines }
         requires flood { (done : ℕ → Bool)
-            × IsFlood graph.now done self.old.marks.highs.items self.old.marks.stack.items self.old.noted.items }
+            × IsFlood graph.now done self.old.marks.by_line.items self.old.marks.pending.items self.old.noted.items }
         ensures { OnOk result ((done : ℕ → Bool)
-            → IsFlood graph.now done self.old.marks.highs.items self.old.marks.stack.items self.old.noted.items
+            → IsFlood graph.now done self.old.marks.by_line.items self.old.marks.pending.items self.old.noted.items
             → ((d : ℕ) → done d ≡ true → weight_of graph.now line ≤ weight_of graph.now d)
-            → IsFlood graph.now (λ d. (d == line) || done d) self.new.marks.highs.items self.new.marks.stack.items self.new.noted.items) }
+            → IsFlood graph.now (λ d. (d == line) || done d) self.new.marks.by_line.items self.new.marks.pending.items self.new.noted.items) }
     {
-        if self.marks.highs[line as usize] > 0 {
+        if self.marks.by_line[line as usize] > 0 {
             return Ok(());
         }
         let mark = weight(graph, line);
@@ -203,19 +155,19 @@ impl Flood {
     fn run(&mut self, graph: &Graph, acquires: &[Vec<u32>], mark: u32) -> Result<(), NoMemory>
         requires lists { AreAcquires graph.now acquires.now (length graph.now.lines) }
         requires some { 0 < mark }
-        requires size { length self.old.marks.highs.items ≡ length graph.now.lines }
+        requires size { length self.old.marks.by_line.items ≡ length graph.now.lines }
         requires locks_noted { length self.old.noted.items ≡ length (locks graph.now) }
-        requires acquires { AreAcquiresMarked graph.now self.old.marks.highs.items self.old.noted.items }
-        requires known { (i : ℕ) → Contains self.old.marks.stack.items i → i < length graph.now.lines }
-        ensures size { OnOk result (length self.new.marks.highs.items ≡ length graph.now.lines) }
+        requires acquires { AreAcquiresMarked graph.now self.old.marks.by_line.items self.old.noted.items }
+        requires known { (i : ℕ) → Contains self.old.marks.pending.items i → i < length graph.now.lines }
+        ensures size { OnOk result (length self.new.marks.by_line.items ≡ length graph.now.lines) }
         ensures locks_noted { OnOk result (length self.new.noted.items ≡ length (locks graph.now)) }
-        ensures acquires { OnOk result (AreAcquiresMarked graph.now self.new.marks.highs.items self.new.noted.items) }
-        ensures empty { OnOk result (self.new.marks.stack.items ≡ []) }
+        ensures acquires { OnOk result (AreAcquiresMarked graph.now self.new.marks.by_line.items self.new.noted.items) }
+        ensures empty { OnOk result (self.new.marks.pending.items ≡ []) }
         ensures flooded { OnOk result ((old : ℕ → ℕ) (m : ℕ) → mark ≡ weight_of graph.now m
-            → IsFlooding graph.now old (slice_index self.old.marks.highs.items) m self.old.marks.stack.items
-            → IsFlooding graph.now old (slice_index self.new.marks.highs.items) m []) }
+            → IsFlooding graph.now old (slice_index self.old.marks.by_line.items) m self.old.marks.pending.items
+            → IsFlooding graph.now old (slice_index self.new.marks.by_line.items) m []) }
     {
-        while let Some(line) = self.marks.stack.pop() {
+        while let Some(line) = self.marks.pending.pop() {
             self.follow(graph, acquires, line, mark)?;
         }
         Ok(())
@@ -232,16 +184,16 @@ impl Flood {
         requires lists { AreAcquires graph.now acquires.now (length graph.now.lines) }
         requires known { line < length graph.now.lines }
         requires some { 0 < mark }
-        requires size { length self.old.marks.highs.items ≡ length graph.now.lines }
+        requires size { length self.old.marks.by_line.items ≡ length graph.now.lines }
         requires locks_noted { length self.old.noted.items ≡ length (locks graph.now) }
-        requires acquires { AreAcquiresMarked graph.now self.old.marks.highs.items self.old.noted.items }
+        requires acquires { AreAcquiresMarked graph.now self.old.marks.by_line.items self.old.noted.items }
         ensures marking { OnOk result
-            (IsMarking (IsNext graph.now line) mark self.old.marks.highs.items self.old.marks.stack.items
-            self.new.marks.highs.items self.new.marks.stack.items) }
+            (IsMarking (IsNext graph.now line) mark self.old.marks.by_line.items self.old.marks.pending.items
+            self.new.marks.by_line.items self.new.marks.pending.items) }
         ensures locks_noted { OnOk result (length self.new.noted.items ≡ length (locks graph.now)) }
-        ensures acquires { OnOk result (AreAcquiresMarked graph.now self.new.marks.highs.items self.new.noted.items) }
+        ensures acquires { OnOk result (AreAcquiresMarked graph.now self.new.marks.by_line.items self.new.noted.items) }
     {
-        self.marks.mark_targets(graph, line, mark)?;
+        mark_targets(&mut self.marks, graph, line, mark)?;
         match freed(graph, line) {
             Some(lock) => self.note(graph, acquires, lock, mark),
             None => Ok(()),
@@ -259,17 +211,17 @@ impl Flood {
         requires lists { AreAcquires graph.now acquires.now (length graph.now.lines) }
         requires known { lock < length (locks graph.now) }
         requires some { 0 < mark }
-        requires size { length self.old.marks.highs.items ≡ length graph.now.lines }
+        requires size { length self.old.marks.by_line.items ≡ length graph.now.lines }
         requires locks_noted { length self.old.noted.items ≡ length (locks graph.now) }
-        requires acquires { AreAcquiresMarked graph.now self.old.marks.highs.items self.old.noted.items }
+        requires acquires { AreAcquiresMarked graph.now self.old.marks.by_line.items self.old.noted.items }
         ensures marking { OnOk result
-            (IsMarking (λ i. Acquires graph.now i lock) mark self.old.marks.highs.items self.old.marks.stack.items
-            self.new.marks.highs.items self.new.marks.stack.items) }
+            (IsMarking (λ i. Acquires graph.now i lock) mark self.old.marks.by_line.items self.old.marks.pending.items
+            self.new.marks.by_line.items self.new.marks.pending.items) }
         ensures locks_noted { OnOk result (length self.new.noted.items ≡ length (locks graph.now)) }
-        ensures acquires { OnOk result (AreAcquiresMarked graph.now self.new.marks.highs.items self.new.noted.items) }
+        ensures acquires { OnOk result (AreAcquiresMarked graph.now self.new.marks.by_line.items self.new.noted.items) }
     {
         if !self.noted[lock as usize] {
-            self.marks.mark_acquires(graph, acquires, lock, mark)?;
+            mark_acquires(&mut self.marks, graph, acquires, lock, mark)?;
             self.noted[lock as usize] = true;
         }
         Ok(())

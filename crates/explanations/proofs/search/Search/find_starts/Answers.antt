@@ -10,7 +10,7 @@ find-requires-clause-known c =
 
 pub loop-line-preserved : goal.loop-line-preserved
 loop-line-preserved c =
-    let m = lines_more 1 c.args.self.now.tree.counts.items c.args.self.now.found.items c.loop-line.self.tree.counts.items c.loop-line.self.found.items c.find.new.self.tree.counts.items c.find.new.self.found.items
+    let m = lines_more 1 c.args.self.now.marks.by_line.items c.args.self.now.marks.pending.items c.loop-line.self.marks.by_line.items c.loop-line.self.marks.pending.items c.find.new.self.marks.by_line.items c.find.new.self.marks.pending.items
     c.args.starts.now c.loop-line.line-index c.loop-line-test.true c.loop-line.invariant.marking c.in_ok-find.ensures.marking in
     record {
       marking = m;

@@ -6,7 +6,7 @@ use Rattle.slot_need.proofs.high_numbers.Flood.reach_from_all.Given as goal
 abbrev pub invariant-loop-line : goal.invariant-loop-line
 invariant-loop-line l = record {
   within : l.line ≤ length l.graph.lines;
-  flood : IsFlood l.graph (done_from l.graph l.line) l.self.marks.highs.items l.self.marks.stack.items l.self.noted.items;
+  flood : IsFlood l.graph (done_from l.graph l.line) l.self.marks.by_line.items l.self.marks.pending.items l.self.noted.items;
 }
 
 abbrev pub decreases-loop-line : goal.decreases-loop-line

@@ -1,7 +1,7 @@
 use Rattle.std.proofs.Common.{◌<◌, sym, subst, ◌∙◌}
 use Rattle.std.specs.List.{slice_index_or}
 use Rattle.slot_need.proofs.FloodMarks.{no_edge, target_known, targets_more}
-use Rattle.slot_need.proofs.high_numbers.Marks.mark_targets.Goals as goal
+use Rattle.slot_need.proofs.high_numbers.mark_targets.Goals as goal
 
 pub mark-requires-clause-known : goal.mark-requires-clause-known
 mark-requires-clause-known c =
@@ -12,5 +12,5 @@ mark-requires-clause-known c =
 
 pub loop-edge-preserved : goal.loop-edge-preserved
 loop-edge-preserved c =
-    targets_more c.args.mark c.args.self.now.highs.items c.args.self.now.stack.items c.loop-edge.self.highs.items c.loop-edge.self.stack.items c.mark.new.self.highs.items c.mark.new.self.stack.items
-    c.edges_from-edges.result.now c.loop-edge.edge-index c.loop-edge-test.true c.loop-edge.invariant c.in_ok-mark.ensures
+    targets_more c.args.mark c.args.marks.now.by_line.items c.args.marks.now.pending.items c.loop-edge.marks.by_line.items c.loop-edge.marks.pending.items c.mark.new.self.by_line.items c.mark.new.self.pending.items
+    c.edges_from-edges.result.now c.loop-edge.edge-index c.loop-edge-test.true c.loop-edge.invariant c.in_ok-mark.ensures.marking
