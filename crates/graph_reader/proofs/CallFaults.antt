@@ -24,11 +24,9 @@ use Rattle.graph_reader.specs.Laws.{NoAccessInFew}
 use Rattle.word_meanings.specs.Telling.{AllTell}
 use Rattle.graph_reader.specs.Calls.{word_placed, call_placed, seen_reason}
 use Rattle.word_meanings.specs.declared.faults.Faults.{Faults}
-use Rattle.graph_reader.specs.declared.item.Item.{Item}
-use Rattle.graph_reader.specs.declared.item.Item.TheVariants as items
 use Rattle.graph_reader.specs.declared.item.ItemError.{ItemError}
 use Rattle.graph_reader.specs.declared.item.ItemError.TheVariants as errors
-use Rattle.graph_reader.specs.Reading.{item_value, open_fault, IsLineRead}
+use Rattle.graph_reader.specs.Reading.{IsLineRead}
 use Rattle.word_meanings.proofs.Public.{all_tell_both}
 use Rattle.basics.proofs.TestedLists.{any_map, any_right}
 use Rattle.graph_reader.proofs.Drafts.{event_words, column_words, events_listed, events_no_columns}
@@ -165,10 +163,10 @@ misnamed_word g name c h = first_fails g (call_with g name c)
     or_yes false = refl
 
 -- what the line of a call is read as
-pub call_item : (g : GraphValue) (d : Draft) (r : Result Item ItemError) (l : Line) → draft_fault g d ≡ line_fault g l → d.item ≡ inr l → MatchResult r (λ i. i ≡ items.Line l) (λ e. e ≡ errors.NoMemory) → IsLineRead g d r
-call_item g d (Ok i) l h k e = (subst (λ x. draft_fault g d ≡ open_fault g (item_value x)) (sym e) h, k ∙ ap item_value (sym e))
-call_item g d (Err (errors.Refused w)) l h k e = absurd (cc)
-call_item g d (Err errors.NoMemory) l h k e = tt
+pub call_line : (g : GraphValue) (d : Draft) (r : Result Line ItemError) (l : Line) → draft_fault g d ≡ line_fault g l → d.item ≡ inr l → MatchResult r (λ m. m ≡ l) (λ e. e ≡ errors.NoMemory) → IsLineRead g d r
+call_line g d (Ok m) l h k e = (h ∙ ap (line_fault g) (sym e), k ∙ ap inr (sym e))
+call_line g d (Err (errors.Refused w)) l h k e = absurd (cc)
+call_line g d (Err errors.NoMemory) l h k e = tt
 
 -- the reasons by what is to be said of the words
 pub seen_misnamed : (used again : Bool) (f : Faults) → f.misnamed ≡ true → seen_reason used f again ≡ Some why.Name

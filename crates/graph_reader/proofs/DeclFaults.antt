@@ -1,5 +1,5 @@
 -- What refuses the words of a declaration.
-use Rattle.std.proofs.Common.{append-nil, length-append, inr, ◌⊎◌, ◌≡◌, ℕ, ◌+◌, ◌<◌, Bool, true, false, cond, not, ◌&&◌, ◌||◌, List, [], ◌∷◌, length, refl, sym, ◌∙◌, ap, subst, inl, arith}
+use Rattle.std.proofs.Common.{append-nil, length-append, drop, inr, ◌⊎◌, ◌≡◌, ℕ, ◌+◌, ◌<◌, Bool, true, false, cond, not, ◌&&◌, ◌||◌, List, [], ◌∷◌, length, refl, sym, ◌∙◌, ap, subst, inl, arith}
 use Rattle.std.specs.Prelude.{Option, Some, None, Result, Ok, Err, is_some, unwrap_or, position, bytes_eq, nat_lt, nat_le, flat_map, filter}
 use Rattle.std.specs.Option.{option_map_or}
 use Rattle.std.specs.List.{list_all}
@@ -22,7 +22,7 @@ use Rattle.std.proofs.lemmas.Grind.{flat_map-append}
 use Rattle.std.proofs.lemmas.List.{length-map}
 use Rattle.graph_terms.specs.Name.{is_name_in}
 use Rattle.graph_terms.specs.Spelling.{head}
-use Rattle.graph_terms.specs.Fits.{first_reason, repeats, is_used, decl_fault, is_inst, has_many_spaces, is_beyond, with_decl}
+use Rattle.graph_terms.specs.Fits.{first_reason, repeats, is_used, decl_fault, decl_unknown, decl_lacks, decl_misnumbered, is_large, is_inst, has_many_spaces, is_beyond, with_decl}
 use Rattle.graph_words.specs.Words.{pieces, count_of, value_of, intervals_of, ascend_from, is_fields}
 use Rattle.graph_words.specs.Draft.{Draft, NewName, SpaceName, space_with, columns_decl, columns_with, lock_with, barrier_with, space_number}
 use Rattle.graph_reader.specs.FirstFault.{draft_tests, draft_fault, or_else, item_fault}
@@ -36,13 +36,30 @@ use Rattle.std.proofs.lemmas.List.Quantifiers.{position-Some}
 use Rattle.basics.proofs.TestedLists.{position_any}
 use Rattle.graph_reader.specs.declared.item.ItemError.{ItemError}
 use Rattle.graph_reader.specs.declared.item.ItemError.TheVariants as errors
-use Rattle.graph_reader.specs.Reading.{IsDeclBy, IsDeclRead, space_error, space_reason, columns_reason, spelled_columns, columns_lack}
+use Rattle.graph_reader.specs.Reading.{IsDone, IsDoneBy, IsDeclOffered, with_value, twice_or, space_error, space_reason, columns_reason, spelled_columns, columns_lack}
 
--- what is left for the declaration that the words spell
-pub read_by : (g : GraphValue) (d : Draft) (x : Decl) (r : Option Why) (result : Result Decl ItemError) → draft_fault g d ≡ r → d.item ≡ inl x → IsDeclBy r x result → IsDeclRead g d result
-read_by g d x r (Ok y) h i k = (h ∙ k.0, i ∙ ap inl (sym k.1))
-read_by g d x r (Err (errors.Refused w)) h i k = h ∙ k
-read_by g d x r (Err errors.NoMemory) h i k = tt
+-- what is done with the declaration that the words spell
+pub done_by : {T : Type 0} (g new : GraphValue) (d : Draft) (x : Decl) (r : Option Why) (result : Result T ItemError) → draft_fault g d ≡ r → d.item ≡ inl x → IsDoneBy g r x new result → IsDone g d new result
+done_by g new d x r (Ok u) h i k = (h ∙ k.0, k.1 ∙ ap (with_value g) (sym i))
+done_by g new d x r (Err (errors.Refused w)) h i k = (h ∙ k.0, k.1)
+done_by g new d x r (Err errors.NoMemory) h i k = k
+
+-- and where a reason refuses them
+pub refused_by : (T : Type 0) (g : GraphValue) (d : Draft) (w : Why) (e : ItemError) → e ≡ errors.Refused w → draft_fault g d ≡ Some w → IsDone {T = T} g d g (Err e)
+refused_by T g d w e h f = subst (λ x. IsDone {T = T} g d g (Err x)) (sym h) (f, refl)
+
+-- a name in use comes behind the spelling of names alone
+named_twice : (n u m e : Bool) (more : List (Bool × Why)) (rest : Option Why) → n ≡ false → u ≡ true → or_else (first_reason ((n, why.Name) ∷ ((u || m) || e, why.Twice) ∷ more)) rest ≡ Some why.Twice
+named_twice true u m e more rest h k = absurd (true≢false h)
+named_twice false true m e more rest h k = refl
+named_twice false false m e more rest h k = absurd (true≢false (sym k))
+
+-- a word that is no number, behind a name that is spelled so
+number_left : (n u m o : Bool) (rest : Option Why) → n ≡ false → m ≡ true → or_else (first_reason ((n, why.Name) ∷ ((u || false) || false, why.Twice) ∷ (false, why.Unknown) ∷ (false, why.Kind) ∷ (m, why.Number) ∷ (o, why.Space) ∷ [])) rest ≡ Some (twice_or u why.Number)
+number_left true u m o rest h k = absurd (true≢false h)
+number_left false true m o rest h k = refl
+number_left false false true o rest h k = refl
+number_left false false false o rest h k = absurd (true≢false (sym k))
 
 -- a name that is spelled so, and new
 lock_by : (u : Bool) (rest : Option Why) (more : Option Why) → rest ≡ cond (u || false) (Some why.Twice) more → or_else (first_reason ((false, why.Name) ∷ ((u || false) || (false || false), why.Twice) ∷ (false, why.Unknown) ∷ (false, why.Kind) ∷ (false, why.Number) ∷ (false, why.Space) ∷ [])) rest ≡ rest
@@ -64,21 +81,52 @@ and_no false = refl
 pub fine_name : (g : GraphValue) (name : List ℕ) → is_name_in g.format name ≡ true → is_used g name ≡ false → IsFine g NewName name
 fine_name g name h u = record { named = ap not h; once = u; known = refl; alike = refl; numbered = refl; ordered = refl }
 
-pub barrier_is : (g : GraphValue) (name new arrivals first : List ℕ) (op : Op) (count value : ℕ) → is_name_in g.format name ≡ true → new ≡ name → is_used g name ≡ false → count_of g.format arrivals ≡ Some count → value_of first ≡ Some value →
+barrier_new : (g : GraphValue) (name arrivals first : List ℕ) (op : Op) (count value : ℕ) → is_name_in g.format name ≡ true → is_used g name ≡ false → count_of g.format arrivals ≡ Some count → value_of first ≡ Some value →
+    draft_fault g (barrier_with g.format name arrivals op first) ≡ item_fault g (barrier_with g.format name arrivals op first).item
+barrier_new g name arrivals first op count value h u c v =
+    fine_words g (barrier_with g.format name arrivals op first) (
+      fine_name g name h u,
+      (
+        record { named = refl; once = refl; known = refl; alike = refl; numbered = ap (λ o. not (is_some o)) c; ordered = refl },
+        (record { named = refl; once = refl; known = refl; alike = refl; numbered = ap (λ o. not (is_some o)) v; ordered = refl }, tt),
+      ),
+    ) refl refl
+
+-- the reasons behind that a name is in use
+abbrev later_tests : GraphValue → Draft → List (Bool × Why)
+later_tests g d = drop 2 (draft_tests g d)
+
+abbrev later_decl_tests : GraphValue → Decl → List (Bool × Why)
+later_decl_tests g d = (decl_unknown g d, why.Unknown) ∷ (decl_lacks g.format d, why.Kind) ∷ (decl_misnumbered g.format d, why.Number) ∷ (is_large g.format d || is_beyond (with_decl g d), why.Limit) ∷ []
+
+-- the first reason of a declaration whose name is in use
+used_first : (u r : Bool) (more : List (Bool × Why)) → u ≡ true → first_reason ((u || r, why.Twice) ∷ more) ≡ Some why.Twice
+used_first true r more h = refl
+used_first false r more h = absurd (true≢false (sym h))
+
+barrier_by : (g : GraphValue) (name arrivals first : List ℕ) (op : Op) (count value : ℕ) (u : Bool) → is_used g name ≡ u → is_name_in g.format name ≡ true → count_of g.format arrivals ≡ Some count → value_of first ≡ Some value →
+    (barrier_with g.format name arrivals op first).item ≡ inl (decl.Barrier name count op value) → draft_fault g (barrier_with g.format name arrivals op first) ≡ decl_fault g (decl.Barrier name count op value)
+barrier_by g name arrivals first op count value true u h c v i =
+    named_twice (not (is_name_in g.format name) || false) (is_used g name) false false (later_tests g (barrier_with g.format name arrivals op first)) (item_fault g (barrier_with g.format name arrivals op first).item) (ap (λ b. not b || false) h) u
+    ∙ sym (used_first (is_used g name) false (later_decl_tests g (decl.Barrier name count op value)) u)
+barrier_by g name arrivals first op count value false u h c v i = barrier_new g name arrivals first op count value h u c v ∙ ap (item_fault g) i
+
+pub barrier_is : (g : GraphValue) (name new arrivals first : List ℕ) (op : Op) (count value : ℕ) → is_name_in g.format name ≡ true → new ≡ name → count_of g.format arrivals ≡ Some count → value_of first ≡ Some value →
     (draft_fault g (barrier_with g.format name arrivals op first) ≡ decl_fault g (decl.Barrier new count op value)) × ((barrier_with g.format name arrivals op first).item ≡ inl (decl.Barrier new count op value))
-barrier_is g name new arrivals first op count value h e u c v =
-    let i : (barrier_with g.format name arrivals op first).item ≡ inl (decl.Barrier new count op value) =
-    ap (λ o. as_barrier name (unwrap_or o 0) op (unwrap_or (value_of first) 0)) c ∙ (ap (λ o. as_barrier name count op (unwrap_or o 0)) v ∙ ap (λ n. as_barrier n count op value) (sym e)) in (
-      fine_words g (barrier_with g.format name arrivals op first) (
-        fine_name g name h u,
-        (
-          record { named = refl; once = refl; known = refl; alike = refl; numbered = ap (λ o. not (is_some o)) c; ordered = refl },
-          (record { named = refl; once = refl; known = refl; alike = refl; numbered = ap (λ o. not (is_some o)) v; ordered = refl }, tt),
-        ),
-      ) refl refl
-          ∙ ap (item_fault g) i,
-      i,
-    )
+barrier_is g name new arrivals first op count value h e c v =
+    let i : (barrier_with g.format name arrivals op first).item ≡ inl (decl.Barrier name count op value) =
+    ap (λ o. as_barrier name (unwrap_or o 0) op (unwrap_or (value_of first) 0)) c ∙ ap (λ o. as_barrier name count op (unwrap_or o 0)) v in
+    (barrier_by g name arrivals first op count value (is_used g name) refl h c v i ∙ ap (λ n. decl_fault g (decl.Barrier n count op value)) (sym e), i ∙ ap (λ n. as_barrier n count op value) (sym e))
+
+pub or_yes : (b : Bool) → (b || true) ≡ true
+or_yes true = refl
+or_yes false = refl
+
+-- one of its words is no number
+pub barrier_misnumbered : (g : GraphValue) (name new arrivals first : List ℕ) (op : Op) → is_name_in g.format name ≡ true → new ≡ name → (not (is_some (count_of g.format arrivals)) || (not (is_some (value_of first)) || false)) ≡ true →
+    draft_fault g (barrier_with g.format name arrivals op first) ≡ Some (twice_or (is_used g new) why.Number)
+barrier_misnumbered g name new arrivals first op h e m =
+    number_left (not (is_name_in g.format name) || false) (is_used g name) (not (is_some (count_of g.format arrivals)) || (not (is_some (value_of first)) || false)) false (item_fault g (barrier_with g.format name arrivals op first).item) (ap (λ b. not b || false) h) m ∙ ap (λ n. Some (twice_or (is_used g n) why.Number)) (sym e)
 
 -- spaces
 placed_by : (k low : ℕ) (is : List (ℕ × ℕ)) (i : ℕ × ℕ) (a b : Bool) (e : Option SpaceFault) → nat_lt i.1 i.0 ≡ a → nat_lt i.0 low ≡ b → cond a (Some (spaces.Reversed k)) (cond b (Some (spaces.Order k)) (first_misplaced (k + 1) (i.1 + 2) is)) ≡ e →
@@ -143,30 +191,36 @@ faultless m (i ∷ is) h = faultless_by m (i ∷ is) (first_misplaced 0 0 (i ∷
 abbrev beyond_with : GraphValue → Decl → Bool
 beyond_with g d = is_beyond (with_decl g d)
 
-space_limit : (g : GraphValue) (name : List ℕ) (is : List (ℕ × ℕ)) → is_used g name ≡ false → has_large (limits g.format).space is ≡ true → decl_fault g (decl.Space name is) ≡ Some why.Limit
-space_limit g name is u l =
-    ap (λ b. first_reason ((b || false, why.Twice) ∷ (false, why.Unknown) ∷ (false, why.Number) ∷ (has_large (limits g.format).space is || beyond_with g (decl.Space name is), why.Limit) ∷ [])) u
-    ∙ ap (λ b. first_reason ((false, why.Twice) ∷ (false, why.Unknown) ∷ (false, why.Number) ∷ (b || beyond_with g (decl.Space name is), why.Limit) ∷ [])) l
+limit_left : (u l b : Bool) → l ≡ true → first_reason ((u || false, why.Twice) ∷ (false, why.Unknown) ∷ (false, why.Number) ∷ (l || b, why.Limit) ∷ []) ≡ Some (twice_or u why.Limit)
+limit_left true l b h = refl
+limit_left false true b h = refl
+limit_left false false b h = absurd (true≢false (sym h))
 
-reason_false : (g : GraphValue) (name : List ℕ) (is : List (ℕ × ℕ)) → ascend_from 0 is ≡ false → space_reason g name is ≡ Some why.Space
-reason_false g name is h = cond-false (ascend_from 0 is) (decl_fault g (decl.Space name is)) (Some why.Space) h
+space_limit : (g : GraphValue) (name : List ℕ) (is : List (ℕ × ℕ)) → has_large (limits g.format).space is ≡ true → decl_fault g (decl.Space name is) ≡ Some (twice_or (is_used g name) why.Limit)
+space_limit g name is l = limit_left (is_used g name) (has_large (limits g.format).space is) (beyond_with g (decl.Space name is)) l
+
+reason_false : (g : GraphValue) (name : List ℕ) (is : List (ℕ × ℕ)) → ascend_from 0 is ≡ false → space_reason g name is ≡ Some (twice_or (is_used g name) why.Space)
+reason_false g name is h = cond-false (ascend_from 0 is) (decl_fault g (decl.Space name is)) (Some (twice_or (is_used g name) why.Space)) h
 
 reason_true : (g : GraphValue) (name : List ℕ) (is : List (ℕ × ℕ)) → ascend_from 0 is ≡ true → space_reason g name is ≡ decl_fault g (decl.Space name is)
-reason_true g name is h = cond-true (ascend_from 0 is) (decl_fault g (decl.Space name is)) (Some why.Space) h
+reason_true g name is h = cond-true (ascend_from 0 is) (decl_fault g (decl.Space name is)) (Some (twice_or (is_used g name) why.Space)) h
 
-space_err_by : (g : GraphValue) (name : List ℕ) (is : List (ℕ × ℕ)) (e : SpaceFault) → is_used g name ≡ false → Faulty (limits g.format).space is e → IsDeclBy (space_reason g name is) (decl.Space name is) (Err (space_error e))
-space_err_by g name is (spaces.Reversed k) u (inl f) = reason_false g name is f.1
-space_err_by g name is (spaces.Order k) u (inl f) = reason_false g name is f.1
-space_err_by g name is spaces.Many u (inl f) = absurd (omega (arith, f.0))
-space_err_by g name is spaces.Large u (inl f) = absurd (omega (arith, f.0))
-space_err_by g name is spaces.Empty u (inl f) = absurd (omega (arith, f.0))
-space_err_by g name is spaces.NoMemory u (inl f) = tt
-space_err_by g name is (spaces.Reversed k) u (inr f) = absurd (omega (arith, f.0))
-space_err_by g name is (spaces.Order k) u (inr f) = absurd (omega (arith, f.0))
-space_err_by g name is spaces.Many u (inr f) = reason_true g name is f.1 ∙ space_limit g name is u f.2
-space_err_by g name is spaces.Large u (inr f) = reason_true g name is f.1 ∙ space_limit g name is u f.2
-space_err_by g name is spaces.Empty u (inr f) = absurd (omega (arith, f.0))
-space_err_by g name is spaces.NoMemory u (inr f) = tt
+abbrev IsRefusedSpace : GraphValue → List ℕ → List (ℕ × ℕ) → SpaceFault → Type 0
+IsRefusedSpace g name is e = IsDoneBy {T = Unit {0}} g (space_reason g name is) (decl.Space name is) g (Err (space_error (is_used g name) e))
+
+space_err_by : (g : GraphValue) (name : List ℕ) (is : List (ℕ × ℕ)) (e : SpaceFault) → Faulty (limits g.format).space is e → IsRefusedSpace g name is e
+space_err_by g name is (spaces.Reversed k) (inl f) = (reason_false g name is f.1, refl)
+space_err_by g name is (spaces.Order k) (inl f) = (reason_false g name is f.1, refl)
+space_err_by g name is spaces.Many (inl f) = absurd (omega (arith, f.0))
+space_err_by g name is spaces.Large (inl f) = absurd (omega (arith, f.0))
+space_err_by g name is spaces.Empty (inl f) = absurd (omega (arith, f.0))
+space_err_by g name is spaces.NoMemory (inl f) = refl
+space_err_by g name is (spaces.Reversed k) (inr f) = absurd (omega (arith, f.0))
+space_err_by g name is (spaces.Order k) (inr f) = absurd (omega (arith, f.0))
+space_err_by g name is spaces.Many (inr f) = (reason_true g name is f.1 ∙ space_limit g name is f.2, refl)
+space_err_by g name is spaces.Large (inr f) = (reason_true g name is f.1 ∙ space_limit g name is f.2, refl)
+space_err_by g name is spaces.Empty (inr f) = absurd (omega (arith, f.0))
+space_err_by g name is spaces.NoMemory (inr f) = refl
 
 unlike_memory : (e : SpaceFault) → 3 ≡ kind e ⊎ (e ≡ spaces.NoMemory → ⊥)
 unlike_memory (spaces.Reversed k) = inr (λ h. absurd (let n : 0 ≡ 3 = ap kind h in omega arith))
@@ -176,19 +230,20 @@ unlike_memory spaces.Large = inr (λ h. absurd (let n : 1 ≡ 3 = ap kind h in o
 unlike_memory spaces.Empty = inr (λ h. absurd (let n : 2 ≡ 3 = ap kind h in omega arith))
 unlike_memory spaces.NoMemory = inl refl
 
-memory_err : (g : GraphValue) (name : List ℕ) (is : List (ℕ × ℕ)) (e : SpaceFault) → 3 ≡ kind e → IsDeclBy (space_reason g name is) (decl.Space name is) (Err (space_error e))
+memory_err : (g : GraphValue) (name : List ℕ) (is : List (ℕ × ℕ)) (e : SpaceFault) → 3 ≡ kind e → IsRefusedSpace g name is e
 memory_err g name is (spaces.Reversed k) h = absurd (omega (arith, h))
 memory_err g name is (spaces.Order k) h = absurd (omega (arith, h))
 memory_err g name is spaces.Many h = absurd (omega (arith, h))
 memory_err g name is spaces.Large h = absurd (omega (arith, h))
 memory_err g name is spaces.Empty h = absurd (omega (arith, h))
-memory_err g name is spaces.NoMemory h = tt
+memory_err g name is spaces.NoMemory h = refl
 
-pub space_err : (g : GraphValue) (name : List ℕ) (is : List (ℕ × ℕ)) (e : SpaceFault) → is_used g name ≡ false → (is ≡ [] → ⊥) → ((e ≡ spaces.NoMemory → ⊥) → space_fault_in (limits g.format).space is ≡ Some e) → IsDeclBy (space_reason g name is) (decl.Space name is) (Err (space_error e))
-space_err g name is e u some h = elim (unlike_memory e) [ inl m ↦ memory_err g name is e m | inr n ↦ space_err_by g name is e u (faulty (limits g.format).space is e some (h n)) ]
+pub space_err : (g : GraphValue) (name : List ℕ) (is : List (ℕ × ℕ)) (e : SpaceFault) → (is ≡ [] → ⊥) → ((e ≡ spaces.NoMemory → ⊥) → space_fault_in (limits g.format).space is ≡ Some e) → IsRefusedSpace g name is e
+space_err g name is e some h = elim (unlike_memory e) [ inl m ↦ memory_err g name is e m | inr n ↦ space_err_by g name is e (faulty (limits g.format).space is e some (h n)) ]
 
-pub space_ok : (g : GraphValue) (name : List ℕ) (is s : List (ℕ × ℕ)) (result : Result Decl ItemError) → s ≡ is → space_fault_in (limits g.format).space is ≡ None → IsDeclBy (decl_fault g (decl.Space name s)) (decl.Space name s) result → IsDeclBy (space_reason g name is) (decl.Space name is) result
-space_ok g name is s result e f h = subst (λ r. IsDeclBy r (decl.Space name is) result) (sym (reason_true g name is (faultless (limits g.format).space is f))) (subst (λ x. IsDeclBy (decl_fault g (decl.Space name x)) (decl.Space name x) result) e h)
+pub space_ok : {T : Type 0} (g new : GraphValue) (name : List ℕ) (is s : List (ℕ × ℕ)) (result : Result T ItemError) → s ≡ is → space_fault_in (limits g.format).space is ≡ None → IsDoneBy g (decl_fault g (decl.Space name s)) (decl.Space name s) new result →
+    IsDoneBy g (space_reason g name is) (decl.Space name is) new result
+space_ok g new name is s result e f h = subst (λ r. IsDoneBy g r (decl.Space name is) new result) (sym (reason_true g name is (faultless (limits g.format).space is f))) (subst (λ x. IsDoneBy g (decl_fault g (decl.Space name x)) (decl.Space name x) new result) e h)
 
 abbrev as_space : List ℕ → List (ℕ × ℕ) → Decl ⊎ Line
 as_space name is = inl (decl.Space name is)
@@ -203,8 +258,8 @@ space_six g name w rest is n u i a =
     ∙ (ap (λ o. or_else (first_reason ((false, why.Name) ∷ (false, why.Twice) ∷ (false, why.Unknown) ∷ (false, why.Kind) ∷ (not (is_some o) || false, why.Number) ∷ (not (option_map_or (ascend_from 0) o true) || false, why.Space) ∷ [])) rest) i
     ∙ ap (λ b. or_else (first_reason ((false, why.Name) ∷ (false, why.Twice) ∷ (false, why.Unknown) ∷ (false, why.Kind) ∷ (false, why.Number) ∷ (not b || false, why.Space) ∷ [])) rest) a))
 
-space_by : (g : GraphValue) (name w : List ℕ) (is : List (ℕ × ℕ)) (b : Bool) → ascend_from 0 is ≡ b → is_name_in g.format name ≡ true → is_used g name ≡ false → intervals_of w ≡ Some is → (space_with name w).item ≡ inl (decl.Space name is) → draft_fault g (space_with name w) ≡ space_reason g name is
-space_by g name w is true a n u i e =
+space_new : (g : GraphValue) (name w : List ℕ) (is : List (ℕ × ℕ)) (b : Bool) → ascend_from 0 is ≡ b → is_name_in g.format name ≡ true → is_used g name ≡ false → intervals_of w ≡ Some is → (space_with name w).item ≡ inl (decl.Space name is) → draft_fault g (space_with name w) ≡ space_reason g name is
+space_new g name w is true a n u i e =
     fine_words g (space_with name w) (
       fine_name g name n u,
       (
@@ -220,15 +275,27 @@ space_by g name w is true a n u i e =
       ),
     ) refl refl
     ∙ (ap (item_fault g) e ∙ sym (reason_true g name is a))
-space_by g name w is false a n u i e = space_six g name w (item_fault g (space_with name w).item) is n u i a ∙ sym (reason_false g name is a)
+space_new g name w is false a n u i e = space_six g name w (item_fault g (space_with name w).item) is n u i a ∙ (ap (λ b. Some (twice_or b why.Space)) (sym u) ∙ sym (reason_false g name is a))
 
-pub space_is : (g : GraphValue) (name new w : List ℕ) (is : List (ℕ × ℕ)) → is_name_in g.format name ≡ true → new ≡ name → is_used g name ≡ false → intervals_of w ≡ Some is →
+reason_used : (g : GraphValue) (name : List ℕ) (is : List (ℕ × ℕ)) (b : Bool) → ascend_from 0 is ≡ b → is_used g name ≡ true → space_reason g name is ≡ Some why.Twice
+reason_used g name is true a u = reason_true g name is a ∙ used_first (is_used g name) false (later_decl_tests g (decl.Space name is)) u
+reason_used g name is false a u = reason_false g name is a ∙ ap (λ b. Some (twice_or b why.Space)) u
+
+space_by : (g : GraphValue) (name w : List ℕ) (is : List (ℕ × ℕ)) (b : Bool) → is_used g name ≡ b → is_name_in g.format name ≡ true → intervals_of w ≡ Some is → (space_with name w).item ≡ inl (decl.Space name is) → draft_fault g (space_with name w) ≡ space_reason g name is
+space_by g name w is true u n i e = named_twice (not (is_name_in g.format name) || false) (is_used g name) false false (later_tests g (space_with name w)) (item_fault g (space_with name w).item) (ap (λ b. not b || false) n) u ∙ sym (reason_used g name is (ascend_from 0 is) refl u)
+space_by g name w is false u n i e = space_new g name w is (ascend_from 0 is) refl n u i e
+
+pub space_is : (g : GraphValue) (name new w : List ℕ) (is : List (ℕ × ℕ)) → is_name_in g.format name ≡ true → new ≡ name → intervals_of w ≡ Some is →
     (draft_fault g (space_with name w) ≡ space_reason g new is) × ((space_with name w).item ≡ inl (decl.Space new is))
-space_is g name new w is n e u i =
+space_is g name new w is n e i =
     let item : (space_with name w).item ≡ as_space name is = ap (λ o. as_space name (unwrap_or o [])) i in (
-      space_by g name w is (ascend_from 0 is) refl n u i item ∙ ap (λ x. space_reason g x is) (sym e),
+      space_by g name w is (is_used g name) refl n i item ∙ ap (λ x. space_reason g x is) (sym e),
       item ∙ ap (λ x. as_space x is) (sym e),
     )
+
+-- its word spells no intervals
+pub space_misnumbered : (g : GraphValue) (name w : List ℕ) → is_name_in g.format name ≡ true → intervals_of w ≡ None → draft_fault g (space_with name w) ≡ Some (twice_or (is_used g name) why.Number)
+space_misnumbered g name w n i = number_left (not (is_name_in g.format name) || false) (is_used g name) (not (is_some (intervals_of w)) || false) (not (option_map_or (ascend_from 0) (intervals_of w) true) || false) (item_fault g (space_with name w).item) (ap (λ b. not b || false) n) (ap (λ o. not (is_some o) || false) i)
 
 -- instances and data
 pub columns_reason_is : (g : GraphValue) (hosted : Bool) (name space : List ℕ) (fields : List (List ℕ)) (r k l : Bool) → repeats bytes_eq fields ≡ r → is_used g space ≡ k → unlike g SpaceName space ≡ l →
@@ -322,10 +389,10 @@ columns_left g hosted name space fields s r u p = columns_reason_is g hosted nam
 pub space_number_is : (g : GraphValue) (space : List ℕ) (s : ℕ) → space_place g space ≡ Some s → space_number g space ≡ s
 space_number_is g space s p = ap (λ o. unwrap_or o 0) p
 
-pub columns_ok : (g : GraphValue) (hosted : Bool) (name space : List ℕ) (fields : List (List ℕ)) (s : ℕ) (result : Result Decl ItemError) → repeats bytes_eq fields ≡ false → is_used g space ≡ true → space_place g space ≡ Some s →
-    IsDeclBy (decl_fault g (columns_decl hosted name s fields)) (columns_decl hosted name s fields) result → IsDeclBy (columns_reason g hosted name space fields) (spelled_columns g hosted name space fields) result
-columns_ok g hosted name space fields s result r u p h = subst (λ x. IsDeclBy x (spelled_columns g hosted name space fields) result) (sym (columns_left g hosted name space fields s r u p))
-    (subst (λ n. IsDeclBy (decl_fault g (columns_decl hosted name n fields)) (columns_decl hosted name n fields) result) (sym (space_number_is g space s p)) h)
+pub columns_ok : {T : Type 0} (g new : GraphValue) (hosted : Bool) (name space : List ℕ) (fields : List (List ℕ)) (s : ℕ) (result : Result T ItemError) → repeats bytes_eq fields ≡ false → is_used g space ≡ true → space_place g space ≡ Some s →
+    IsDeclOffered g (columns_decl hosted name s fields) new result → IsDoneBy g (columns_reason g hosted name space fields) (spelled_columns g hosted name space fields) new result
+columns_ok g new hosted name space fields s result r u p h = subst (λ x. IsDoneBy g x (spelled_columns g hosted name space fields) new result) (sym (columns_left g hosted name space fields s r u p))
+    (subst (λ n. IsDeclOffered g (columns_decl hosted name n fields) new result) (sym (space_number_is g space s p)) h)
 
 pub columns_many : (g : GraphValue) (hosted : Bool) (name space : List ℕ) (fields : List (List ℕ)) (s : ℕ) → columns_lack g.format hosted ≡ false → is_used g name ≡ false → repeats bytes_eq fields ≡ false → is_used g space ≡ true → space_place g space ≡ Some s → (limits g.format).columns < length fields → columns_reason g hosted name space fields ≡ Some why.Limit
 columns_many g hosted name space fields s t n r u p l = columns_left g hosted name space fields s r u p ∙ fields_limit g hosted name space fields t n r

@@ -19,7 +19,6 @@ use Rattle.graph_terms.specs.declared.table.Place.TheVariants as places
 use Rattle.graph_terms.specs.Table.{kind_places}
 use Rattle.graph_reader.specs.Kinds.{kind_draft, kind_placed, form_placed, form_reason, form_repeats, column_words, kind_line, later_reason}
 use Rattle.word_meanings.specs.Telling.{AllTell}
-use Rattle.graph_reader.specs.declared.item.Item.TheVariants as items
 use Rattle.graph_reader.specs.Reading.{IsLineRead}
 use Rattle.word_meanings.specs.declared.faults.Faults.{Faults}
 use Rattle.basics.proofs.Choices.{or_true}
@@ -128,7 +127,7 @@ module _ (g : GraphValue) (kind : Kind) (name : List ℕ) (ws : List (List ℕ))
   pub left_fault : is_name_in g.format name ≡ true → form_reason g kind name ws ≡ cond (is_used g name) (Some why.Twice) None → draft_fault g (kind_draft g kind name ws) ≡ line_fault g (kind_line g kind name ws)
   left_fault n h = ap (λ r. or_else r (line_fault g (kind_line g kind name ws))) (reason_is n ∙ h) ∙ used_first (is_used g name) _ _
 
-  pub read_as : (line : Line) → is_name_in g.format name ≡ true → form_reason g kind name ws ≡ cond (is_used g name) (Some why.Twice) None → line ≡ kind_line g kind name ws → IsLineRead g (kind_draft g kind name ws) (Ok (items.Line line))
+  pub read_as : (line : Line) → is_name_in g.format name ≡ true → form_reason g kind name ws ≡ cond (is_used g name) (Some why.Twice) None → line ≡ kind_line g kind name ws → IsLineRead g (kind_draft g kind name ws) (Ok line)
   read_as line n h e = (left_fault n h ∙ ap (line_fault g) (sym e), ap inr (sym e))
 
   module _ (f : Faults) (tell : AllTell g (form_placed g.format kind ws) f) where

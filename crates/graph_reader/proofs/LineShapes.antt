@@ -1,6 +1,6 @@
 -- Words by their number.
-use Rattle.std.proofs.Common.{◌⊎◌, inl, inr, ◌≡◌, ℕ, ◌+◌, ◌<◌, ◌≤◌, Bool, true, false, cond, ◌&&◌, ◌||◌, List, [], ◌∷◌, ◌++◌, length, length-append, drop, refl, sym, ◌∙◌, ap, subst, arith}
-use Rattle.std.specs.Prelude.{Option, Some, None, Result, Ok, Err, option_map, slice_index_or, codes, find, zip, bytes_eq, nat_le, ◌==◌}
+use Rattle.std.proofs.Common.{inl, inr, ◌≡◌, ℕ, ◌+◌, ◌<◌, ◌≤◌, Bool, true, false, cond, ◌&&◌, ◌||◌, List, [], ◌∷◌, ◌++◌, length, length-append, drop, refl, sym, ◌∙◌, ap, subst, arith}
+use Rattle.std.specs.Prelude.{Option, Some, None, Result, option_map, slice_index_or, codes, find, zip, bytes_eq, nat_le, ◌==◌}
 use Rattle.std.specs.List.{starts_with, list_any, list_all}
 use Rattle.std.specs.Option.{option_map_or}
 use Rattle.std.proofs.lemmas.Bool.{true≢false, and_parts, or_cases, ne_eqb, le-leb, leb-true, cond-true, cond-false, eqb-true}
@@ -8,11 +8,9 @@ use Rattle.std.proofs.lemmas.Slice.Eq.{bytes_eq-Decides, starts_is}
 use Rattle.index_spaces.specs.declared.Op.{Op}
 use Rattle.graph_terms.specs.declared.format.Format.{Format}
 use Rattle.graph_terms.specs.declared.format.Format.TheVariants.{One, Two, Three}
-use Rattle.graph_terms.specs.declared.decl.Decl.{Decl}
 use Rattle.graph_terms.specs.declared.verb.Line.{Line}
 use Rattle.graph_terms.specs.declared.verb.Verb.{Verb}
 use Rattle.graph_terms.specs.declared.why.Why.TheVariants as why
-use Rattle.graph_reader.specs.declared.item.ItemError.TheVariants as errors
 use Rattle.graph_reader.specs.FirstFault.{words_fault, draft_fault}
 use Rattle.word_meanings.specs.Words.{is_empty}
 use Rattle.graph_terms.specs.declared.verb.Verb.TheVariants.{Merge, MergeIgnore}
@@ -22,10 +20,10 @@ use Rattle.graph_terms.specs.declared.table.Kind.{Kind}
 use Rattle.graph_terms.specs.declared.table.Kind.TheVariants as kinds
 use Rattle.graph_terms.specs.declared.table.TheConstants.{KINDS}
 use Rattle.graph_reader.specs.Kinds.{kind_draft}
-use Rattle.graph_reader.specs.Reading.{open_fault, IsDeclRead, IsDeclOf, IsWordsError}
+use Rattle.graph_reader.specs.Reading.{IsDone, IsDoneOf}
 use Rattle.graph_terms.specs.Format.{has_since}
 use Rattle.graph_terms.specs.Table.{kind_words}
-use Rattle.graph_words.specs.Draft.{Placed, Draft, draft, merge_with, decl_draft_after, form_of, form_draft, has_events, has_room, is_own_word, is_of_form, same_word, merge_draft, line_draft, decl_draft, space_draft, inst_draft, lock_draft, barrier_draft, space_with, columns_with, barrier_with, op_of, data_draft, call_draft}
+use Rattle.graph_words.specs.Draft.{Placed, draft, merge_with, decl_draft_after, form_of, form_draft, has_events, has_room, is_own_word, is_of_form, same_word, merge_draft, line_draft, decl_draft, space_draft, inst_draft, lock_draft, barrier_draft, space_with, columns_with, barrier_with, op_of, data_draft, call_draft}
 use Rattle.basics.proofs.TestedLists.{find_mapped}
 use Rattle.graph_reader.specs.Laws.{WordsFillPlaces, LineBySign, DeclarationBySign, EmptyByLength, ReservationWords, BarrierWords, InstanceWords, DataWords, LineOfKind, LineOfCall, OperationsHaveTwoWords}
 
@@ -116,19 +114,20 @@ no_barrier_shape g (a ∷ b ∷ c ∷ d ∷ []) h = refl
 no_barrier_shape g (a ∷ b ∷ c ∷ d ∷ e ∷ []) h = absurd (h refl)
 no_barrier_shape g (a ∷ b ∷ c ∷ d ∷ e ∷ f ∷ fs) h = refl
 
-pub inst_read : (g : GraphValue) (ws : List (List ℕ)) (a b c : List ℕ) (r : Result Decl ItemError) → length ws ≡ 4 → a ≡ at ws 1 → b ≡ at ws 2 → c ≡ at ws 3 → IsDeclRead g (columns_with g false a b c) r → IsDeclOf g (inst_draft g (drop 1 ws)) r
-inst_read g ws a b c r l p q s h = subst (λ x. IsDeclOf g x r) (sym (inst_shape g ws l))
-    (subst (λ x. IsDeclRead g (columns_with g false x (at ws 2) (at ws 3)) r) p (subst (λ x. IsDeclRead g (columns_with g false a x (at ws 3)) r) q (subst (λ x. IsDeclRead g (columns_with g false a b x) r) s h)))
+-- what is done with the words of a declaration, by each of them
+pub inst_done : {T : Type 0} (g new : GraphValue) (ws : List (List ℕ)) (a b c : List ℕ) (r : Result T ItemError) → length ws ≡ 4 → a ≡ at ws 1 → b ≡ at ws 2 → c ≡ at ws 3 → IsDone g (columns_with g false a b c) new r → IsDoneOf g (inst_draft g (drop 1 ws)) new r
+inst_done g new ws a b c r l p q s h = subst (λ x. IsDoneOf g x new r) (sym (inst_shape g ws l))
+    (subst (λ x. IsDone g (columns_with g false x (at ws 2) (at ws 3)) new r) p (subst (λ x. IsDone g (columns_with g false a x (at ws 3)) new r) q (subst (λ x. IsDone g (columns_with g false a b x) new r) s h)))
 
-pub barrier_read : (g : GraphValue) (ws : List (List ℕ)) (a b c d : List ℕ) (op : Op) (r : Result Decl ItemError) → length ws ≡ 5 → a ≡ at ws 1 → b ≡ at ws 2 → c ≡ at ws 3 → d ≡ at ws 4 → op_of c ≡ Some op →
-    IsDeclRead g (barrier_with g.format a b op d) r → IsDeclOf g (barrier_draft g (drop 1 ws)) r
-barrier_read g ws a b c d op r l p q s t o h = subst (λ x. IsDeclOf g x r) (sym (barrier_shape g ws l ∙ ap (option_map (λ x. barrier_with g.format (at ws 1) (at ws 2) x (at ws 4))) (ap op_of (sym s) ∙ o)))
-    (subst (λ x. IsDeclRead g (barrier_with g.format x (at ws 2) op (at ws 4)) r) p (subst (λ x. IsDeclRead g (barrier_with g.format a x op (at ws 4)) r) q (subst (λ x. IsDeclRead g (barrier_with g.format a b op x) r) t h)))
+pub barrier_done : {T : Type 0} (g new : GraphValue) (ws : List (List ℕ)) (a b c d : List ℕ) (op : Op) (r : Result T ItemError) → length ws ≡ 5 → a ≡ at ws 1 → b ≡ at ws 2 → c ≡ at ws 3 → d ≡ at ws 4 → op_of c ≡ Some op →
+    IsDone g (barrier_with g.format a b op d) new r → IsDoneOf g (barrier_draft g (drop 1 ws)) new r
+barrier_done g new ws a b c d op r l p q s t o h = subst (λ x. IsDoneOf g x new r) (sym (barrier_shape g ws l ∙ ap (option_map (λ x. barrier_with g.format (at ws 1) (at ws 2) x (at ws 4))) (ap op_of (sym s) ∙ o)))
+    (subst (λ x. IsDone g (barrier_with g.format x (at ws 2) op (at ws 4)) new r) p (subst (λ x. IsDone g (barrier_with g.format a x op (at ws 4)) new r) q (subst (λ x. IsDone g (barrier_with g.format a b op x) new r) t h)))
 
-pub data_read : (g : GraphValue) (ws : List (List ℕ)) (a b c : List ℕ) (r : Result Decl ItemError) → length ws ≡ 4 → has_since Three g.format ≡ true → a ≡ at ws 1 → b ≡ at ws 2 → c ≡ at ws 3 → IsDeclRead g (columns_with g true a b c) r →
-    IsDeclOf g (data_draft g (drop 1 ws)) r
-data_read g ws a b c r l t p q s h = subst (λ x. IsDeclOf g x r) (sym (data_shape g ws l t))
-    (subst (λ x. IsDeclRead g (columns_with g true x (at ws 2) (at ws 3)) r) p (subst (λ x. IsDeclRead g (columns_with g true a x (at ws 3)) r) q (subst (λ x. IsDeclRead g (columns_with g true a b x) r) s h)))
+pub data_done : {T : Type 0} (g new : GraphValue) (ws : List (List ℕ)) (a b c : List ℕ) (r : Result T ItemError) → length ws ≡ 4 → has_since Three g.format ≡ true → a ≡ at ws 1 → b ≡ at ws 2 → c ≡ at ws 3 → IsDone g (columns_with g true a b c) new r →
+    IsDoneOf g (data_draft g (drop 1 ws)) new r
+data_done g new ws a b c r l t p q s h = subst (λ x. IsDoneOf g x new r) (sym (data_shape g ws l t))
+    (subst (λ x. IsDone g (columns_with g true x (at ws 2) (at ws 3)) new r) p (subst (λ x. IsDone g (columns_with g true a x (at ws 3)) new r) q (subst (λ x. IsDone g (columns_with g true a b x) new r) s h)))
 
 -- words that begin with none of the first three
 decl_later : (g : GraphValue) (w : List ℕ) (ws : List (List ℕ)) (k : List ℕ) → k ≡ w → bytes_eq k (codes "space") ≡ false → bytes_eq k (codes "inst") ≡ false → bytes_eq k (codes "lock") ≡ false →
@@ -270,6 +269,10 @@ pub decl_first : (g : GraphValue) (ls : List Line) (ws : List (List ℕ)) → le
 decl_first g [] ws h = refl
 decl_first g (l ∷ ls) ws h = absurd (omega (arith, h))
 
+pub no_lines : (ls : List Line) → length ls ≡ 0 → ls ≡ []
+no_lines [] h = refl
+no_lines (l ∷ ls) h = absurd (omega (arith, h))
+
 -- what words without an empty one are read as
 pub filled : (g : GraphValue) (ws : List (List ℕ)) → list_any is_empty ws ≡ false → words_fault g ws ≡ option_map_or (draft_fault g) (draft g ws) (Some why.Syntax)
 filled g ws h = cond-false (list_any is_empty ws) (Some why.Syntax) _ h
@@ -277,25 +280,8 @@ filled g ws h = cond-false (list_any is_empty ws) (Some why.Syntax) _ h
 pub words_empty : (g : GraphValue) (ws : List (List ℕ)) → list_any is_empty ws ≡ true → words_fault g ws ≡ Some why.Syntax
 words_empty g ws h = cond-true (list_any is_empty ws) (Some why.Syntax) _ h
 
-abbrev pub decl_item : Result Decl ItemError → Result (Decl ⊎ Line) ItemError
-decl_item (Ok d) = Ok (inl d)
-decl_item (Err e) = Err e
-
--- an item, by its value
-abbrev pub IsItemRead : GraphValue → List (List ℕ) → Result (Decl ⊎ Line) ItemError → Type 0
-IsItemRead g ws (Ok i) = (words_fault g ws ≡ open_fault g i) × (drafted : Draft) × (draft g ws ≡ Some drafted) × (drafted.item ≡ i)
-IsItemRead g ws (Err e) = IsWordsError g ws e
-
 pub syntax_fault : (g : GraphValue) (ws : List (List ℕ)) → list_any is_empty ws ≡ false → draft g ws ≡ None → words_fault g ws ≡ Some why.Syntax
 syntax_fault g ws f h = filled g ws f ∙ ap (λ o. option_map_or (draft_fault g) o (Some why.Syntax)) h
-
-pub decl_read : (g : GraphValue) (ws : List (List ℕ)) (o : Option Draft) (r : Result Decl ItemError) → list_any is_empty ws ≡ false → draft g ws ≡ o → IsDeclOf g o r → IsItemRead g ws (decl_item r)
-decl_read g ws None (Ok x) f e h = absurd h
-decl_read g ws None (Err (errors.Refused w)) f e h = syntax_fault g ws f e ∙ ap Some (sym h)
-decl_read g ws None (Err errors.NoMemory) f e h = tt
-decl_read g ws (Some d) (Ok x) f e h = (filled g ws f ∙ (ap (λ o. option_map_or (draft_fault g) o (Some why.Syntax)) e ∙ h.0), d, e, h.1)
-decl_read g ws (Some d) (Err (errors.Refused w)) f e h = filled g ws f ∙ (ap (λ o. option_map_or (draft_fault g) o (Some why.Syntax)) e ∙ h)
-decl_read g ws (Some d) (Err errors.NoMemory) f e h = tt
 
 pub empty_is : EmptyByLength
 empty_is [] = refl

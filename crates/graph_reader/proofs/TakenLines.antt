@@ -14,11 +14,9 @@ use Rattle.word_meanings.specs.Words.{is_empty}
 use Rattle.graph_reader.specs.Kinds.{kind_draft}
 use Rattle.graph_reader.specs.Merges.{merge_verb}
 use Rattle.graph_reader.specs.FirstFault.{draft_fault, item_fault}
-use Rattle.graph_reader.specs.declared.item.Item.{Item}
-use Rattle.graph_reader.specs.declared.item.Item.TheVariants as items
 use Rattle.graph_reader.specs.declared.item.ItemError.{ItemError}
 use Rattle.graph_reader.specs.declared.item.ItemError.TheVariants as errors
-use Rattle.graph_reader.specs.Reading.{IsWordsItem, IsWordsError, IsOpenError, IsTaken, IsLineRead, IsLineOf, IsTakable, IsOffered, IsDone, IsDoneOf, IsWordsDone, item_value, open_fault, MayFollow, with_value}
+use Rattle.graph_reader.specs.Reading.{IsWordsError, IsTaken, IsLineRead, IsLineOf, IsTakable, IsOffered, IsDone, IsDoneOf, IsWordsDone, MayFollow, with_value}
 use Rattle.graph_reader.proofs.Drafts.{fine_draft}
 use Rattle.graph_reader.proofs.ReadBack.{IsItem}
 use Rattle.graph_reader.proofs.Spelled.{form_spelled, merge_spelled, mergei_spelled, call_spelled}
@@ -42,17 +40,16 @@ takable_call : (g : GraphValue) (name : List ℕ) (ws : List (List ℕ)) (d : Dr
 unfolding IsTakable
 takable_call g name ws d e none = let f = fine_draft g d none in item_follows g d.item (call_spelled g name ws d e f).is_item f.item
 
-pub line_follows : (g : GraphValue) (d : Draft) (item : Item) → IsTakable g d → IsLineRead g d (Ok item) → MayFollow g (item_value item)
+pub line_follows : (g : GraphValue) (d : Draft) (l : Line) → IsTakable g d → IsLineRead g d (Ok l) → MayFollow g (inr l)
 unfolding IsTakable
-line_follows g d (items.Line m) t h = λ none. subst (MayFollow g) h.1 (t (h.0 ∙ none)) none
-line_follows g d (items.Decl x) t h = subst (MayFollow g) h.1 (t h.0)
+line_follows g d l t h = λ none. subst (MayFollow g) h.1 (t (h.0 ∙ none)) none
 
-pub call_follows : (g : GraphValue) (name : List ℕ) (ws : List (List ℕ)) (item : Item) → IsLineOf g (call_draft g name ws) (Ok item) → MayFollow g (item_value item)
-call_follows g name ws item h = by (call_draft g name ws) refl h
+pub call_follows : (g : GraphValue) (name : List ℕ) (ws : List (List ℕ)) (l : Line) → IsLineOf g (call_draft g name ws) (Ok l) → MayFollow g (inr l)
+call_follows g name ws l h = by (call_draft g name ws) refl h
   where
-    by : (o : Option Draft) → call_draft g name ws ≡ o → IsLineOf g o (Ok item) → MayFollow g (item_value item)
+    by : (o : Option Draft) → call_draft g name ws ≡ o → IsLineOf g o (Ok l) → MayFollow g (inr l)
     by None e h = absurd h
-    by (Some d) e h = line_follows g d item (takable_call g name ws d e) h
+    by (Some d) e h = line_follows g d l (takable_call g name ws d e) h
 
 -- a line whose words no reason refuses, by what the graph says of it
 pub line_taken : (g : GraphValue) (d : Draft) (l : Line) → IsTakable g d → draft_fault g d ≡ line_fault g l → d.item ≡ inr l → MayFollow g (inr l)
@@ -65,14 +62,9 @@ offered g new d l (Ok u) f is h = (f ∙ h.0, h.1 ∙ ap (with_value g) (sym is)
 offered g new d l (Err (errors.Refused w)) f is h = (f ∙ h.0, h.1)
 offered g new d l (Err errors.NoMemory) f is h = h
 
-pub added : {T : Type 0} (g new : GraphValue) (d : Draft) (item : Item) (r : Result T ItemError) → IsLineRead g d (Ok item) → OnOk r ((open_fault g (item_value item) ≡ None) × (new ≡ with_value g (item_value item))) → IfErr r (IsOpenError g (item_value item)) → OnErr r (new ≡ g) → IsDone g d new r
-added g new d item (Ok u) h a e s = (h.0 ∙ a.0, a.1 ∙ ap (with_value g) (sym h.1))
-added g new d item (Err (errors.Refused w)) h a e s = (h.0 ∙ e, s)
-added g new d item (Err errors.NoMemory) h a e s = s
-
-pub added_of : {T : Type 0} (g new : GraphValue) (o : Option Draft) (item : Item) (r : Result T ItemError) → IsLineOf g o (Ok item) → OnOk r ((open_fault g (item_value item) ≡ None) × (new ≡ with_value g (item_value item))) → IfErr r (IsOpenError g (item_value item)) → OnErr r (new ≡ g) → IsDoneOf g o new r
-added_of g new None item r h a e s = absurd h
-added_of g new (Some d) item r h a e s = added g new d item r h a e s
+pub offered_of : {T : Type 0} (g new : GraphValue) (o : Option Draft) (l : Line) (r : Result T ItemError) → IsLineOf g o (Ok l) → IsOffered g l new r → IsDoneOf g o new r
+offered_of g new None l r h a = absurd h
+offered_of g new (Some d) l r h a = offered g new d l r h.0 h.1 a
 
 -- nothing is done where no line was read
 pub not_read : (T : Type 0) (g : GraphValue) (o : Option Draft) (e : ItemError) → IsLineOf g o (Err e) → IsDoneOf {T = T} g o g (Err e)
@@ -89,12 +81,6 @@ line_done g new ws None (Err errors.NoMemory) f e h = h
 line_done g new ws (Some d) (Ok u) f e h = (filled g ws f ∙ (ap (λ o. option_map_or (draft_fault g) o (Some why.Syntax)) e ∙ h.0), d, e, h.1)
 line_done g new ws (Some d) (Err (errors.Refused w)) f e h = (filled g ws f ∙ (ap (λ o. option_map_or (draft_fault g) o (Some why.Syntax)) e ∙ h.0), h.1)
 line_done g new ws (Some d) (Err errors.NoMemory) f e h = h
-
--- and with those of an item that was read
-pub item_done : {T : Type 0} (g new : GraphValue) (ws : List (List ℕ)) (item : Item) (r : Result T ItemError) → IsWordsItem g ws (Ok item) → OnOk r ((open_fault g (item_value item) ≡ None) × (new ≡ with_value g (item_value item))) → IfErr r (IsOpenError g (item_value item)) → OnErr r (new ≡ g) → IsWordsDone g ws new r
-item_done g new ws item (Ok u) h a e s = (h.0 ∙ a.0, h.1, h.2, a.1 ∙ ap (with_value g) (sym h.3))
-item_done g new ws item (Err (errors.Refused w)) h a e s = (h.0 ∙ e, s)
-item_done g new ws item (Err errors.NoMemory) h a e s = s
 
 -- the parts of what is done with words
 pub words_taken : {T : Type 0} (g new : GraphValue) (ws : List (List ℕ)) (r : Result T ItemError) → IsWordsDone g ws new r → OnOk r (IsTaken g ws new)

@@ -24,17 +24,10 @@ use Rattle.graph_words.specs.Text.{text, bare_of, number_of, GraphText}
 use Rattle.graph_terms.specs.Limits.{limits}
 use Rattle.graph_reader.specs.declared.reader.Reading.{Reading}
 use Rattle.graph_reader.specs.declared.reader.Reading.TheVariants as readings
-use Rattle.graph_reader.specs.declared.item.Item.{Item}
-use Rattle.graph_reader.specs.declared.item.Item.TheVariants as items
 use Rattle.graph_reader.specs.declared.item.ItemError.{ItemError}
 use Rattle.graph_reader.specs.declared.item.ItemError.TheVariants as errors
 use Rattle.graph_reader.specs.declared.ReadRefusal.{ReadRefusal}
 use Rattle.graph_reader.specs.declared.ReadRefusal.TheVariants as refusals
-
--- an item as a declaration or a line
-abbrev pub item_value : Item → Decl ⊎ Line
-item_value (items.Decl d) = inl d
-item_value (items.Line l) = inr l
 
 -- the refusal names the first refused line and its first reason
 abbrev pub IsRefusal : List ℕ → ReadRefusal → Type 0
@@ -87,42 +80,24 @@ abbrev pub with_value : GraphValue → Decl ⊎ Line → GraphValue
 with_value g (inl d) = with_decl g d
 with_value g (inr l) = with_line g l
 
--- the reason that is still open once an item was read: of a declaration there is none
-abbrev pub open_fault : GraphValue → Decl ⊎ Line → Option Why
-open_fault g (inl d) = None
-open_fault g (inr l) = line_fault g l
-
 -- the item fits after this graph, unless a reason is open
 abbrev pub MayFollow : GraphValue → Decl ⊎ Line → Type 0
 MayFollow g (inl d) = IsDecl d × (g.lines ≡ []) × (decl_fault g d ≡ None) × IsTrue (is_decl_named g.format d)
 MayFollow g (inr l) = line_fault g l ≡ None → IsLine l × IsTrue (is_name_in g.format l.name)
 
--- the reason that was open of an item
-abbrev pub IsOpenError : GraphValue → Decl ⊎ Line → ItemError → Type 0
-IsOpenError g i (errors.Refused w) = open_fault g i ≡ Some w
-IsOpenError g i errors.NoMemory = Unit {0}
-
--- what the words of a declaration in their places are read as
-abbrev pub IsDeclRead : GraphValue → Draft → Result Decl ItemError → Type 0
-IsDeclRead g d (Ok x) = (draft_fault g d ≡ None) × (d.item ≡ inl x)
-IsDeclRead g d (Err (errors.Refused w)) = draft_fault g d ≡ Some w
-IsDeclRead g d (Err errors.NoMemory) = Unit {0}
-
 -- what the words of a line in their places are read as: a line of which the graph itself may still say a reason
-abbrev pub IsLineRead : GraphValue → Draft → Result Item ItemError → Type 0
-IsLineRead g d (Ok i) = (draft_fault g d ≡ open_fault g (item_value i)) × (d.item ≡ item_value i)
+abbrev pub IsLineRead : GraphValue → Draft → Result Line ItemError → Type 0
+IsLineRead g d (Ok l) = (draft_fault g d ≡ line_fault g l) × (d.item ≡ inr l)
 IsLineRead g d (Err (errors.Refused w)) = draft_fault g d ≡ Some w
 IsLineRead g d (Err errors.NoMemory) = Unit {0}
 
--- a declaration where this reason is none, or else this reason
-abbrev pub IsDeclBy : Option Why → Decl → Result Decl ItemError → Type 0
-IsDeclBy r d (Ok x) = (r ≡ None) × (x ≡ d)
-IsDeclBy r d (Err (errors.Refused w)) = r ≡ Some w
-IsDeclBy r d (Err errors.NoMemory) = Unit {0}
+-- a reason that comes behind that a name is in use
+abbrev pub twice_or : Bool → Why → Why
+twice_or used reason = cond used why.Twice reason
 
--- the reasons that are left for a space whose name is new
+-- the reasons that are left for a space
 abbrev pub space_reason : GraphValue → List ℕ → List (ℕ × ℕ) → Option Why
-space_reason g name is = cond (ascend_from 0 is) (decl_fault g (decl.Space name is)) (Some why.Space)
+space_reason g name is = cond (ascend_from 0 is) (decl_fault g (decl.Space name is)) (Some (twice_or (is_used g name) why.Space))
 
 -- a format that has no data
 abbrev pub columns_lack : Format → Bool → Bool
@@ -148,24 +123,17 @@ abbrev pub AreNoFields : Format → List ℕ → ItemError → Type 0
 AreNoFields format w (errors.Refused x) = (x ≡ why.Name) × (list_all (is_name_in format) (pieces 44 w) ≡ false)
 AreNoFields format w errors.NoMemory = Unit {0}
 
--- what a fault of a space is for the line that declares it
-abbrev pub space_error : SpaceFault → ItemError
-space_error spaces.Empty = errors.Refused why.Space
-space_error (spaces.Reversed k) = errors.Refused why.Space
-space_error (spaces.Order k) = errors.Refused why.Space
-space_error spaces.Many = errors.Refused why.Limit
-space_error spaces.Large = errors.Refused why.Limit
-space_error spaces.NoMemory = errors.NoMemory
-
--- what the words of a declaration are read as: words of no form are refused
-abbrev pub IsDeclOf : GraphValue → Option Draft → Result Decl ItemError → Type 0
-IsDeclOf g (Some d) r = IsDeclRead g d r
-IsDeclOf g None (Ok x) = ⊥
-IsDeclOf g None (Err (errors.Refused w)) = w ≡ why.Syntax
-IsDeclOf g None (Err errors.NoMemory) = Unit {0}
+-- what a fault of a space is for the line that declares it, where its name is in use and where it is not
+abbrev pub space_error : Bool → SpaceFault → ItemError
+space_error used spaces.Empty = errors.Refused (twice_or used why.Space)
+space_error used (spaces.Reversed k) = errors.Refused (twice_or used why.Space)
+space_error used (spaces.Order k) = errors.Refused (twice_or used why.Space)
+space_error used spaces.Many = errors.Refused (twice_or used why.Limit)
+space_error used spaces.Large = errors.Refused (twice_or used why.Limit)
+space_error used spaces.NoMemory = errors.NoMemory
 
 -- what the words of a line are read as
-abbrev pub IsLineOf : GraphValue → Option Draft → Result Item ItemError → Type 0
+abbrev pub IsLineOf : GraphValue → Option Draft → Result Line ItemError → Type 0
 IsLineOf g (Some d) r = IsLineRead g d r
 IsLineOf g None (Ok x) = ⊥
 IsLineOf g None (Err (errors.Refused w)) = w ≡ why.Syntax
@@ -175,11 +143,6 @@ IsLineOf g None (Err errors.NoMemory) = Unit {0}
 abbrev pub IsWordsError : GraphValue → List (List ℕ) → ItemError → Type 0
 IsWordsError g ws (errors.Refused w) = words_fault g ws ≡ Some w
 IsWordsError g ws errors.NoMemory = Unit {0}
-
--- what words are read as
-abbrev pub IsWordsItem : GraphValue → List (List ℕ) → Result Item ItemError → Type 0
-IsWordsItem g ws (Ok i) = (words_fault g ws ≡ open_fault g (item_value i)) × (drafted : Draft) × (draft g ws ≡ Some drafted) × (drafted.item ≡ item_value i)
-IsWordsItem g ws (Err e) = IsWordsError g ws e
 
 -- the words spell an item that fits, and this is the graph with it at its end
 abbrev pub IsTaken : GraphValue → List (List ℕ) → GraphValue → Type 0
@@ -195,7 +158,17 @@ IsOffered g l new (Ok u) = (line_fault g l ≡ None) × (new ≡ with_line g l)
 IsOffered g l new (Err (errors.Refused w)) = (line_fault g l ≡ Some w) × (new ≡ g)
 IsOffered g l new (Err errors.NoMemory) = new ≡ g
 
--- what is done with the words of a line in their places
+-- what is done with a declaration where this reason is none, or else by this reason
+abbrev pub IsDoneBy : {T : Type 0} → GraphValue → Option Why → Decl → GraphValue → Result T ItemError → Type 0
+IsDoneBy g r d new (Ok u) = (r ≡ None) × (new ≡ with_decl g d)
+IsDoneBy g r d new (Err (errors.Refused w)) = (r ≡ Some w) × (new ≡ g)
+IsDoneBy g r d new (Err errors.NoMemory) = new ≡ g
+
+-- what is done with a declaration that is offered: it stands at the end where no reason refuses it, else the graph stays
+abbrev pub IsDeclOffered : {T : Type 0} → GraphValue → Decl → GraphValue → Result T ItemError → Type 0
+IsDeclOffered g d new r = IsDoneBy g (decl_fault g d) d new r
+
+-- what is done with the words of an item in their places
 abbrev pub IsDone : {T : Type 0} → GraphValue → Draft → GraphValue → Result T ItemError → Type 0
 IsDone g d new (Ok u) = (draft_fault g d ≡ None) × (new ≡ with_value g d.item)
 IsDone g d new (Err (errors.Refused w)) = (draft_fault g d ≡ Some w) × (new ≡ g)

@@ -14,7 +14,7 @@ ghost use Rattle.graph_reader.specs.Calls.{word_placed, call_placed, IsSeenFault
 ghost use Rattle.graph_reader.specs.Reading.{IsLineOf, IsLineRead};
 
 use crate::forms::later_fault;
-use crate::item::{Item, ItemError};
+use crate::item::ItemError;
 use graph_model::graph::Graph;
 use graph_terms::call::{Call, CallParts};
 use graph_terms::format::Format;
@@ -193,15 +193,15 @@ fn line_of_call(
     name: Name,
     parts: CallParts,
     on: EventList,
-) -> Result<Item, ItemError>
-    ensures { MatchResult result (λ item. item ≡ Item.Line (record { name = name; verb = Verb.Call parts; on = on })) (λ e. e ≡ ItemError.NoMemory) }
+) -> Result<Line, ItemError>
+    ensures { MatchResult result (λ line. line ≡ record { name = name; verb = Verb.Call parts; on = on }) (λ e. e ≡ ItemError.NoMemory) }
 {
     match Call::new(alloc, parts) {
-        Ok(call) => Ok(Item::Line(Line {
+        Ok(call) => Ok(Line {
             name,
             verb: Verb::Call { call },
             on,
-        })),
+        }),
         Err(_) => Err(ItemError::NoMemory),
     }
 }
@@ -213,7 +213,7 @@ fn read_call(
     graph: &Graph,
     name: &[u8],
     words: &CallWords,
-) -> Result<Item, ItemError>
+) -> Result<Line, ItemError>
     ensures { IsLineRead graph.now (call_with graph.now name.now (in_parts words.now)) result }
 {
     let Some(name) = name_in(graph, name) else {
@@ -256,7 +256,7 @@ pub(crate) fn call_line(
     graph: &Graph,
     name: &[u8],
     words: &[&[u8]],
-) -> Result<Item, ItemError>
+) -> Result<Line, ItemError>
     requires { 1 ≤ length words.now }
     ensures { IsLineOf graph.now (call_draft graph.now name.now (drop 1 (contents words.now))) result }
 {

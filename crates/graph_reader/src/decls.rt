@@ -1,12 +1,13 @@
 //! Lines of declarations.
 
-ghost use Rattle.std.specs.Prelude.{◌≡◌, map, true, false, [], MatchResult};
-ghost use Rattle.graph_terms.specs.Fits.{decl_fault, is_used};
+ghost use Rattle.std.specs.Prelude.{◌≡◌, true, false, [], MatchResult, IsTrue};
+ghost use Rattle.std.specs.List.{list_all};
+ghost use Rattle.graph_terms.specs.Fits.{is_used};
 ghost use Rattle.graph_terms.specs.Name.{is_name_in};
 ghost use Rattle.graph_words.specs.Draft.{space_with, columns_decl, columns_with, lock_with, barrier_with};
-ghost use Rattle.graph_reader.specs.Reading.{IsDeclBy, IsDeclRead, space_error, space_reason, columns_reason, spelled_columns, columns_lack, AreFields, AreNoFields};
+ghost use Rattle.graph_reader.specs.Reading.{IsDone, IsDoneBy, space_error, space_reason, twice_or, columns_reason, spelled_columns, columns_lack, AreFields, AreNoFields};
 
-use crate::item::ItemError;
+use crate::item::{ItemError, offer_decl};
 use graph_model::graph::Graph;
 use graph_terms::decl::Decl;
 use graph_terms::limits::Limits;
@@ -23,49 +24,49 @@ use std::alloc::Global;
 use word_meanings::checks::{is_name, name_in, names_in};
 use word_meanings::lookup::{look_up, space, stands_for};
 
-/// The declaration, where it fits after the graph.
-fn fitting_decl(graph: &Graph, decl: Decl) -> Result<Decl, ItemError>
-    ensures { IsDeclBy (decl_fault graph.now decl) decl result }
+/// What refuses a declaration with this name where a reason does: it comes behind that the name is in use.
+fn twice_or(graph: &Graph, name: &Name, why: Why) -> ItemError
+    ensures { result ≡ ItemError.Refused (twice_or (is_used graph.now name.now) why) }
 {
-    match graph.decl_fault(&decl) {
-        Some(why) => Err(ItemError::Refused(why)),
-        None => Ok(decl),
+    if stands_for(graph, name).is_some() {
+        ItemError::Refused(Why::Twice)
+    } else {
+        ItemError::Refused(why)
     }
 }
 
-/// The declaration of a reservation.
-pub(crate) fn read_lock(graph: &Graph, name: &[u8]) -> Result<Decl, ItemError>
-    ensures { IsDeclRead graph.now (lock_with name.now) result }
+/// Puts the declaration of a reservation at the end, where it fits; else the graph stays as it was.
+pub(crate) fn take_lock(graph: &mut Graph, name: &[u8]) -> Result<(), ItemError>
+    requires { graph.old.lines ≡ [] }
+    ensures { IsDone graph.old (lock_with name.now) graph.new result }
 {
     let Some(name) = name_in(graph, name) else {
         return Err(ItemError::Refused(Why::Name));
     };
-    fitting_decl(graph, Decl::Lock { name })
+    offer_decl(graph, Decl::Lock { name })
 }
 
-/// The declaration of a barrier.
-pub(crate) fn read_barrier(
-    graph: &Graph,
+/// Puts the declaration of a barrier at the end, where it fits; else the graph stays as it was.
+pub(crate) fn take_barrier(
+    graph: &mut Graph,
     name: &[u8],
     arrivals: &[u8],
     op: Op,
     first: &[u8],
-) -> Result<Decl, ItemError>
-    ensures { IsDeclRead graph.now (barrier_with graph.now.format name.now arrivals.now op first.now) result }
+) -> Result<(), ItemError>
+    requires { graph.old.lines ≡ [] }
+    ensures { IsDone graph.old (barrier_with graph.old.format name.now arrivals.now op first.now) graph.new result }
 {
     let Some(new) = name_in(graph, name) else {
         return Err(ItemError::Refused(Why::Name));
     };
-    if stands_for(graph, &new).is_some() {
-        return Err(ItemError::Refused(Why::Twice));
-    }
     let Some(count) = count(graph.format(), arrivals) else {
-        return Err(ItemError::Refused(Why::Number));
+        return Err(twice_or(graph, &new, Why::Number));
     };
     let Some(first) = value(first) else {
-        return Err(ItemError::Refused(Why::Number));
+        return Err(twice_or(graph, &new, Why::Number));
     };
-    fitting_decl(
+    offer_decl(
         graph,
         Decl::Barrier {
             name: new,
@@ -76,73 +77,72 @@ pub(crate) fn read_barrier(
     )
 }
 
-/// What a fault of a space is for the line that declares it.
-fn space_error(fault: SpaceFault) -> ItemError
-    ensures { result ≡ space_error fault }
+/// What a fault of a space with this name is for the line that declares it.
+fn space_error(graph: &Graph, name: &Name, fault: SpaceFault) -> ItemError
+    ensures { result ≡ space_error (is_used graph.now name.now) fault }
 {
     match fault {
-        SpaceFault::Empty => ItemError::Refused(Why::Space),
-        SpaceFault::Reversed(_) => ItemError::Refused(Why::Space),
-        SpaceFault::Order(_) => ItemError::Refused(Why::Space),
-        SpaceFault::Many => ItemError::Refused(Why::Limit),
-        SpaceFault::Large => ItemError::Refused(Why::Limit),
+        SpaceFault::Empty => twice_or(graph, name, Why::Space),
+        SpaceFault::Reversed(_) => twice_or(graph, name, Why::Space),
+        SpaceFault::Order(_) => twice_or(graph, name, Why::Space),
+        SpaceFault::Many => twice_or(graph, name, Why::Limit),
+        SpaceFault::Large => twice_or(graph, name, Why::Limit),
         SpaceFault::NoMemory => ItemError::NoMemory,
     }
 }
 
-/// The declaration of a space with these intervals.
-fn read_intervals(
+/// Puts the declaration of a space with these intervals at the end, where it fits; else the graph stays as it was.
+fn take_intervals(
     alloc: Global,
-    graph: &Graph,
+    graph: &mut Graph,
     name: Name,
     pairs: &[(u32, u32)],
-) -> Result<Decl, ItemError>
-    requires new { is_used graph.now name ≡ false }
+) -> Result<(), ItemError>
+    requires first { graph.old.lines ≡ [] }
+    requires named { is_name_in graph.old.format name ≡ true }
     requires some { pairs.now ≡ [] → ⊥ }
-    ensures { IsDeclBy (space_reason graph.now name pairs.now) (Decl.Space name pairs.now) result }
+    ensures { IsDoneBy graph.old (space_reason graph.old name pairs.now) (Decl.Space name pairs.now) graph.new result }
 {
     // A space numbers its intervals by 32 bits.
     if pairs.len() > 4294967295 {
         return Err(ItemError::NoMemory);
     }
     match Space::within(alloc, Limits::of(graph.format()).space, pairs) {
-        Ok(space) => fitting_decl(graph, Decl::Space { name, space }),
-        Err(fault) => Err(space_error(fault)),
+        Ok(space) => offer_decl(graph, Decl::Space { name, space }),
+        Err(fault) => Err(space_error(graph, &name, fault)),
     }
 }
 
-/// The declaration of a space with the intervals that a word spells. Out of line, since most spaces have one.
+/// The same with the intervals that a word spells. Out of line, since most spaces have one.
 #[inline(never)]
-fn read_spelled(alloc: Global, graph: &Graph, name: Name, word: &[u8]) -> Result<Decl, ItemError>
-    requires new { is_used graph.now name ≡ false }
-    requires named { is_name_in graph.now.format name ≡ true }
-    ensures { IsDeclRead graph.now (space_with name word.now) result }
+fn take_spelled(alloc: Global, graph: &mut Graph, name: Name, word: &[u8]) -> Result<(), ItemError>
+    requires first { graph.old.lines ≡ [] }
+    requires named { is_name_in graph.old.format name ≡ true }
+    ensures { IsDone graph.old (space_with name word.now) graph.new result }
 {
     match intervals(alloc, word) {
-        Ok(Some(pairs)) => read_intervals(alloc, graph, name, &pairs),
-        Ok(None) => Err(ItemError::Refused(Why::Number)),
+        Ok(Some(pairs)) => take_intervals(alloc, graph, name, &pairs),
+        Ok(None) => Err(twice_or(graph, &name, Why::Number)),
         Err(_) => Err(ItemError::NoMemory),
     }
 }
 
-/// The declaration of a space.
-pub(crate) fn read_space(
+/// Puts the declaration of a space at the end, where it fits; else the graph stays as it was.
+pub(crate) fn take_space(
     alloc: Global,
-    graph: &Graph,
+    graph: &mut Graph,
     name: &[u8],
     word: &[u8],
-) -> Result<Decl, ItemError>
-    ensures { IsDeclRead graph.now (space_with name.now word.now) result }
+) -> Result<(), ItemError>
+    requires { graph.old.lines ≡ [] }
+    ensures { IsDone graph.old (space_with name.now word.now) graph.new result }
 {
     let Some(new) = name_in(graph, name) else {
         return Err(ItemError::Refused(Why::Name));
     };
-    if stands_for(graph, &new).is_some() {
-        return Err(ItemError::Refused(Why::Twice));
-    }
     match one_interval(word) {
-        Some(pair) => read_intervals(alloc, graph, new, &[pair]),
-        None => read_spelled(alloc, graph, new, word),
+        Some(pair) => take_intervals(alloc, graph, new, &[pair]),
+        None => take_spelled(alloc, graph, new, word),
     }
 }
 
@@ -179,20 +179,24 @@ fn columns_decl(hosted: bool, name: Name, space: u32, fields: NameList) -> Decl
     }
 }
 
-/// The declaration of an instance with these fields, or of data where the host keeps their memory.
-fn read_named(
+/// Puts the declaration of an instance with these fields, or of data where the host keeps their memory, at the end, where it
+/// fits; else the graph stays as it was.
+fn take_named(
     alloc: Global,
-    graph: &Graph,
+    graph: &mut Graph,
     hosted: bool,
     name: Name,
     space_word: &[u8],
     fields: Vec<Name>,
-) -> Result<Decl, ItemError>
-    requires there { columns_lack graph.now.format hosted ≡ false }
-    requires new { is_used graph.now name ≡ false }
+) -> Result<(), ItemError>
+    requires first { graph.old.lines ≡ [] }
+    requires named { is_name_in graph.old.format name ≡ true }
+    requires fields { list_all (is_name_in graph.old.format) fields.items ≡ true }
+    requires there { columns_lack graph.old.format hosted ≡ false }
+    requires new { is_used graph.old name ≡ false }
     requires some { fields.items ≡ [] → ⊥ }
-    ensures { IsDeclBy (columns_reason graph.now hosted name space_word.now fields.items)
-        (spelled_columns graph.now hosted name space_word.now fields.items) result }
+    ensures { IsDoneBy graph.old (columns_reason graph.old hosted name space_word.now fields.items)
+        (spelled_columns graph.old hosted name space_word.now fields.items) graph.new result }
 {
     match has_repeat(alloc, &fields) {
         Ok(false) => {}
@@ -210,20 +214,22 @@ fn read_named(
         return Err(ItemError::Refused(Why::Limit));
     }
     let fields = ItemList { items: fields };
-    fitting_decl(graph, columns_decl(hosted, name, space, fields))
+    offer_decl(graph, columns_decl(hosted, name, space, fields))
 }
 
-/// The declaration of an instance, or of data where the host keeps their memory.
-pub(crate) fn read_columns(
+/// Puts the declaration of an instance, or of data where the host keeps their memory, at the end, where it fits; else the
+/// graph stays as it was.
+pub(crate) fn take_columns(
     alloc: Global,
-    graph: &Graph,
+    graph: &mut Graph,
     hosted: bool,
     name: &[u8],
     space_word: &[u8],
     word: &[u8],
-) -> Result<Decl, ItemError>
-    requires { columns_lack graph.now.format hosted ≡ false }
-    ensures { IsDeclRead graph.now (columns_with graph.now hosted name.now space_word.now word.now) result }
+) -> Result<(), ItemError>
+    requires first { graph.old.lines ≡ [] }
+    requires there { columns_lack graph.old.format hosted ≡ false }
+    ensures { IsDone graph.old (columns_with graph.old hosted name.now space_word.now word.now) graph.new result }
 {
     let Some(new) = name_in(graph, name) else {
         return Err(ItemError::Refused(Why::Name));
@@ -235,5 +241,5 @@ pub(crate) fn read_columns(
     if stands_for(graph, &new).is_some() {
         return Err(ItemError::Refused(Why::Twice));
     }
-    read_named(alloc, graph, hosted, new, space_word, fields)
+    take_named(alloc, graph, hosted, new, space_word, fields)
 }

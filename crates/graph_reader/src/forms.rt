@@ -12,7 +12,7 @@ ghost use Rattle.word_meanings.specs.Telling.{AllTell};
 ghost use Rattle.word_meanings.specs.Recent.{IsRecent};
 ghost use Rattle.graph_reader.specs.Reading.{IsLineRead, IsDone, IsTakable};
 
-use crate::item::{Item, ItemError, add_item, offer};
+use crate::item::{ItemError, offer};
 use graph_model::graph::Graph;
 use graph_terms::lists::EventList;
 use graph_terms::name::Name;
@@ -179,7 +179,7 @@ fn read_form(
     kind: Kind,
     name: &[u8],
     words: &[&[u8]],
-) -> Result<Item, ItemError>
+) -> Result<Line, ItemError>
     requires { HasPlaces kind (contents words.now) }
     ensures { IsLineRead graph.now (kind_draft graph.now kind name.now (contents words.now)) result }
 {
@@ -194,11 +194,11 @@ fn read_form(
         Ok(Some(why)) => return Err(ItemError::Refused(why)),
         Err(_) => return Err(ItemError::NoMemory),
     }
-    Ok(Item::Line(Line {
+    Ok(Line {
         name,
         verb: Verb::of(kind, &parts),
         on,
-    }))
+    })
 }
 
 /// Puts the line of a kind with this name and these words at the end, where it fits; else the graph stays as it was. Out of
@@ -215,8 +215,8 @@ fn take_refused(
     requires takable { IsTakable graph.old (kind_draft graph.old kind name.now (contents words.now)) }
     ensures { IsDone graph.old (kind_draft graph.old kind name.now (contents words.now)) graph.new result }
 {
-    let item = read_form(alloc, graph, kind, name, words)?;
-    add_item(graph, item)
+    let line = read_form(alloc, graph, kind, name, words)?;
+    offer(graph, line)
 }
 
 /// The same of any line of a kind. What refuses its words is looked for only where a reason refuses one of them.

@@ -1,7 +1,7 @@
 //! Lines between the first and the closing one.
 
 ghost use Rattle.basics.specs.Words.{contents};
-ghost use Rattle.std.specs.Prelude.{◌≡◌, ◌≤◌, ℕ, ◌<◌, map, [], false, true, MatchResult, OnOk, drop, length, find, codes, None};
+ghost use Rattle.std.specs.Prelude.{◌≡◌, ◌≤◌, ℕ, ◌<◌, [], false, true, OnOk, drop, length, find, codes, None};
 ghost use Rattle.graph_terms.specs.declared.table.TheConstants.{KINDS};
 ghost use Rattle.std.specs.List.{list_any};
 ghost use Rattle.std.specs.Str.{bytes_eq};
@@ -11,15 +11,14 @@ ghost use Rattle.word_meanings.specs.Words.{is_empty};
 ghost use Rattle.word_meanings.specs.Recent.{IsRecent};
 ghost use Rattle.graph_reader.specs.Kinds.{kind_draft};
 ghost use Rattle.graph_reader.specs.Merges.{merge_verb};
-ghost use Rattle.graph_reader.specs.Reading.{IsDeclOf, IsDone, IsDoneOf, IsWordsDone, IsWordsItem, is_operation};
+ghost use Rattle.graph_reader.specs.Reading.{IsDone, IsDoneOf, IsWordsDone, is_operation};
 
 use crate::calls::call_line;
-use crate::decls::{read_barrier, read_columns, read_lock, read_space};
+use crate::decls::{take_barrier, take_columns, take_lock, take_space};
 use crate::forms::take_form;
-use crate::item::{Item, ItemError, add_item};
+use crate::item::{ItemError, offer};
 use crate::merges::take_merge;
 use graph_model::graph::Graph;
-use graph_terms::decl::Decl;
 use graph_terms::format::Format;
 use graph_terms::table::Kind;
 use graph_terms::why::Why;
@@ -43,26 +42,29 @@ fn op_of(word: &[u8]) -> Option<Op>
     }
 }
 
-/// The declaration of a space by its words, of which the first says so.
+/// Puts the declaration of a space by its words, of which the first says so, at the end, where it fits; else the graph stays
+/// as it was.
 #[tactic(auto, using(crate::proofs::LineShapes::space_shape, crate::proofs::LineShapes::no_space_shape))]
-fn space_line(alloc: Global, graph: &Graph, words: &[&[u8]]) -> Result<Decl, ItemError>
-    ensures { IsDeclOf graph.now (space_draft graph.now (drop 1 (contents words.now))) result }
+fn space_line(alloc: Global, graph: &mut Graph, words: &[&[u8]]) -> Result<(), ItemError>
+    requires { graph.old.lines ≡ [] }
+    ensures { IsDoneOf graph.old (space_draft graph.old (drop 1 (contents words.now))) graph.new result }
 {
     if words.len() != 3 {
         return Err(ItemError::Refused(Why::Syntax));
     }
-    read_space(alloc, graph, word(words, 1), word(words, 2))
+    take_space(alloc, graph, word(words, 1), word(words, 2))
 }
 
-/// The declaration of an instance by its words, of which the first says so.
+/// The same of an instance.
 #[tactic(auto, using(crate::proofs::LineShapes::inst_shape, crate::proofs::LineShapes::no_inst_shape))]
-fn inst_line(alloc: Global, graph: &Graph, words: &[&[u8]]) -> Result<Decl, ItemError>
-    ensures { IsDeclOf graph.now (inst_draft graph.now (drop 1 (contents words.now))) result }
+fn inst_line(alloc: Global, graph: &mut Graph, words: &[&[u8]]) -> Result<(), ItemError>
+    requires { graph.old.lines ≡ [] }
+    ensures { IsDoneOf graph.old (inst_draft graph.old (drop 1 (contents words.now))) graph.new result }
 {
     if words.len() != 4 {
         return Err(ItemError::Refused(Why::Syntax));
     }
-    read_columns(
+    take_columns(
         alloc,
         graph,
         false,
@@ -72,15 +74,16 @@ fn inst_line(alloc: Global, graph: &Graph, words: &[&[u8]]) -> Result<Decl, Item
     )
 }
 
-/// The declaration of data by its words, of which the first says so.
+/// The same of data.
 #[tactic(auto, using(crate::proofs::LineShapes::no_data_shape))]
-fn data_line(alloc: Global, graph: &Graph, words: &[&[u8]]) -> Result<Decl, ItemError>
-    ensures { IsDeclOf graph.now (data_draft graph.now (drop 1 (contents words.now))) result }
+fn data_line(alloc: Global, graph: &mut Graph, words: &[&[u8]]) -> Result<(), ItemError>
+    requires { graph.old.lines ≡ [] }
+    ensures { IsDoneOf graph.old (data_draft graph.old (drop 1 (contents words.now))) graph.new result }
 {
     if !graph.format().has_since(Format::Three) || words.len() != 4 {
         return Err(ItemError::Refused(Why::Syntax));
     }
-    read_columns(
+    take_columns(
         alloc,
         graph,
         true,
@@ -90,49 +93,52 @@ fn data_line(alloc: Global, graph: &Graph, words: &[&[u8]]) -> Result<Decl, Item
     )
 }
 
-/// The declaration of a reservation by its words, of which the first says so.
+/// The same of a reservation.
 #[tactic(auto, using(crate::proofs::LineShapes::lock_shape, crate::proofs::LineShapes::no_lock_shape))]
-fn lock_line(graph: &Graph, words: &[&[u8]]) -> Result<Decl, ItemError>
-    ensures { IsDeclOf graph.now (lock_draft graph.now (drop 1 (contents words.now))) result }
+fn lock_line(graph: &mut Graph, words: &[&[u8]]) -> Result<(), ItemError>
+    requires { graph.old.lines ≡ [] }
+    ensures { IsDoneOf graph.old (lock_draft graph.old (drop 1 (contents words.now))) graph.new result }
 {
     if words.len() != 2 {
         return Err(ItemError::Refused(Why::Syntax));
     }
-    read_lock(graph, word(words, 1))
+    take_lock(graph, word(words, 1))
 }
 
-/// The declaration of a barrier by its words, of which the first says so.
+/// The same of a barrier.
 #[tactic(auto, using(crate::proofs::LineShapes::barrier_shape, crate::proofs::LineShapes::no_barrier_shape))]
-fn barrier_line(graph: &Graph, words: &[&[u8]]) -> Result<Decl, ItemError>
-    ensures { IsDeclOf graph.now (barrier_draft graph.now (drop 1 (contents words.now))) result }
+fn barrier_line(graph: &mut Graph, words: &[&[u8]]) -> Result<(), ItemError>
+    requires { graph.old.lines ≡ [] }
+    ensures { IsDoneOf graph.old (barrier_draft graph.old (drop 1 (contents words.now))) graph.new result }
 {
     if words.len() != 5 {
         return Err(ItemError::Refused(Why::Syntax));
     }
     match op_of(word(words, 3)) {
-        Some(op) => read_barrier(graph, word(words, 1), word(words, 2), op, word(words, 4)),
+        Some(op) => take_barrier(graph, word(words, 1), word(words, 2), op, word(words, 4)),
         None => Err(ItemError::Refused(Why::Syntax)),
     }
 }
 
-/// The declaration that words spell.
-fn read_decl(alloc: Global, graph: &Graph, words: &[&[u8]]) -> Result<Decl, ItemError>
-    ensures { IsDeclOf graph.now (decl_draft graph.now (contents words.now)) result }
+/// Puts the declaration that words spell at the end, where it fits; else the graph stays as it was.
+fn decl_line(alloc: Global, graph: &mut Graph, words: &[&[u8]]) -> Result<(), ItemError>
+    requires { graph.old.lines ≡ [] }
+    ensures { IsDoneOf graph.old (decl_draft graph.old (contents words.now)) graph.new result }
 {
     let kind = word(words, 0);
-    if kind == b"space".as_slice() {
+    if is_same(kind, b"space") {
         return space_line(alloc, graph, words);
     }
-    if kind == b"inst".as_slice() {
+    if is_same(kind, b"inst") {
         return inst_line(alloc, graph, words);
     }
-    if kind == b"lock".as_slice() {
+    if is_same(kind, b"lock") {
         return lock_line(graph, words);
     }
-    if kind == b"barrier".as_slice() {
+    if is_same(kind, b"barrier") {
         return barrier_line(graph, words);
     }
-    if kind == b"data".as_slice() {
+    if is_same(kind, b"data") {
         return data_line(alloc, graph, words);
     }
     Err(ItemError::Refused(Why::Syntax))
@@ -167,7 +173,7 @@ fn take_call(
     ensures { IsDoneOf graph.old (call_draft graph.old name.now (drop 1 (contents words.now))) graph.new result }
 {
     match call_line(alloc, graph, name, words) {
-        Ok(item) => add_item(graph, item),
+        Ok(line) => offer(graph, line),
         Err(error) => Err(error),
     }
 }
@@ -267,21 +273,6 @@ fn take_operation<'a>(
     take_named(alloc, graph, recent, word(words, 0), behind(words, 2))
 }
 
-/// The declaration that words spell, of which none is empty.
-fn declaration(alloc: Global, graph: &Graph, words: &[&[u8]]) -> Result<Item, ItemError>
-    requires filled { list_any is_empty (contents words.now) ≡ false }
-    requires declaration { is_operation (contents words.now) ≡ false }
-    ensures { IsWordsItem graph.now (contents words.now) result }
-{
-    if graph.lines() > 0 {
-        return Err(ItemError::Refused(Why::Syntax));
-    }
-    match read_decl(alloc, graph, words) {
-        Ok(decl) => Ok(Item::Decl(decl)),
-        Err(error) => Err(error),
-    }
-}
-
 /// Puts the declaration that words spell, of which none is empty, at the end, where it fits; else the graph stays as it was.
 /// Out of line, since most lines are operations.
 #[inline(never)]
@@ -290,8 +281,10 @@ fn take_declaration(alloc: Global, graph: &mut Graph, words: &[&[u8]]) -> Result
     requires declaration { is_operation (contents words.now) ≡ false }
     ensures { IsWordsDone graph.old (contents words.now) graph.new result }
 {
-    let item = declaration(alloc, graph, words)?;
-    add_item(graph, item)
+    if graph.lines() > 0 {
+        return Err(ItemError::Refused(Why::Syntax));
+    }
+    decl_line(alloc, graph, words)
 }
 
 /// Puts the item that words spell at the end, where it fits; else the graph stays as it was.

@@ -1,13 +1,14 @@
 -- Lists of words behind references.
-use Rattle.std.proofs.Common.{◌≡◌, ℕ, zero, suc, ◌-◌, ◌<◌, ◌≤◌, Bool, true, false, ◌&&◌, List, [], ◌∷◌, length, take, drop, take_all, get_or, map, refl, ◌∙◌, ap, arith, Bor}
+use Rattle.std.proofs.Common.{◌≡◌, ℕ, zero, suc, ◌-◌, ◌<◌, ◌≤◌, Bool, true, false, ◌&&◌, ◌||◌, List, [], ◌∷◌, length, take, drop, take_all, get_or, map, refl, ◌∙◌, ap, arith, Bor}
 use Rattle.std.specs.Prelude.{bytes_eq, zip}
-use Rattle.std.specs.List.{list_all, starts_with}
+use Rattle.std.specs.List.{list_all, list_any, starts_with}
+use Rattle.std.proofs.lemmas.Bool.{true≢false}
 use Rattle.std.proofs.lemmas.List.{length-map}
 use Rattle.basics.specs.Words.{contents}
 use Rattle.graph_terms.specs.declared.table.Kind.{Kind}
 use Rattle.graph_terms.specs.declared.table.Place as table
 use Rattle.graph_terms.specs.Table.{kind_places}
-use Rattle.graph_words.specs.Draft.{Placed, is_own_word, as_place, form_of, same_word, words_in}
+use Rattle.graph_words.specs.Draft.{Place, Times, Shared, Placed, is_own_word, takes_own_word, as_place, form_of, same_word, words_in}
 use Rattle.graph_words.specs.Words.{words_of}
 
 pub begins_by_zip : (ws fixed : List (Bor (List ℕ))) → length fixed ≤ length ws →
@@ -46,6 +47,21 @@ pub own_listed : (ps : List table.Place) (ws : List (Bor (List ℕ))) → list_a
 own_listed [] ws = refl
 own_listed (p ∷ ps) [] = refl
 own_listed (p ∷ ps) (w ∷ ws) = ap (λ b. is_own_word (as_place p) w.now && b) (own_listed ps ws)
+
+-- places that take any word
+own_word : (p : Place) (w : List ℕ) → takes_own_word p ≡ false → is_own_word p w ≡ true
+own_word Times w h = absurd (true≢false h)
+own_word Shared w h = absurd (true≢false h)
+own_word p w h = refl
+
+own_by : (a b c d : Bool) → (a || c) ≡ false → (a ≡ false → b ≡ true) → (c ≡ false → d ≡ true) → (b && d) ≡ true
+own_by true b c d h f g = absurd (true≢false h)
+own_by false b c d h f g = ap (λ x. x && d) (f refl) ∙ g h
+
+pub own_places : (ps : List Place) (ws : List (List ℕ)) → list_any takes_own_word ps ≡ false → list_all (λ (p : Placed). is_own_word p.0 p.1) (zip ps ws) ≡ true
+own_places [] ws h = refl
+own_places (p ∷ ps) [] h = refl
+own_places (p ∷ ps) (w ∷ ws) h = own_by (takes_own_word p) (is_own_word p w) (list_any takes_own_word ps) _ h (own_word p w) (own_places ps ws)
 
 -- bytes and words by the first of them
 pub first_byte : (w : List ℕ) (d : ℕ) → 1 ≤ length w → get_or w 0 d ∷ drop 1 w ≡ w

@@ -130,6 +130,12 @@ is_own_word Times w = same_word w (codes "times")
 is_own_word Shared w = same_word w (codes "shared")
 is_own_word _ w = true
 
+-- whether a place takes one word alone
+abbrev pub takes_own_word : Place → Bool
+takes_own_word Times = true
+takes_own_word Shared = true
+takes_own_word _ = false
+
 -- whether there is a word for each place, with `on` and its events behind these or without
 abbrev pub has_room : Format → Form → List (List ℕ) → Bool
 has_room format f rest = length rest == length f.places || has_on format f rest

@@ -1,10 +1,10 @@
 //! Words of a line.
 
 ghost use Rattle.basics.specs.Words.{contents};
-ghost use Rattle.std.specs.Prelude.{◌≡◌, ◌≤◌, ◌<◌, ◌+◌, ◌++◌, take, ℕ, List, ◌∷◌, length, drop, map, ◌==◌, find, OnOk, IfOk, IfSome, MatchOption, [], slice_index_or, option_map, option_copied, true, codes};
+ghost use Rattle.std.specs.Prelude.{◌≡◌, ◌≤◌, ◌<◌, ◌+◌, ◌++◌, take, ℕ, List, ◌∷◌, length, drop, map, ◌==◌, find, OnOk, IfOk, IfSome, MatchOption, [], slice_index_or, option_map, option_copied, true, codes, zip};
 ghost use Rattle.graph_terms.specs.Format.{has_since};
 ghost use Rattle.graph_words.specs.Words.{pieces};
-ghost use Rattle.graph_words.specs.Draft.{Placed, form_of, is_own_word, fits_behind, is_of_form, same_word, has_events, has_on, on_events, has_room, as_place, words_in};
+ghost use Rattle.graph_words.specs.Draft.{Placed, form_of, is_own_word, takes_own_word, fits_behind, is_of_form, same_word, has_events, has_on, on_events, has_room, as_place, words_in};
 ghost use Rattle.std.specs.List.{list_any, list_all, starts_with};
 ghost use Rattle.std.specs.Str.{bytes_eq};
 
@@ -201,7 +201,23 @@ fn is_own_word(place: Place, word: &[u8]) -> bool
     }
 }
 
-/// Whether each word in its place is the one that the place takes, where that takes one word alone.
+/// Whether a kind has a place that takes one word alone.
+fn takes_own_word(kind: Kind) -> bool
+    ensures { result ≡ list_any takes_own_word (form_of kind).places }
+{
+    matches!(kind, Kind::ArriveTimes | Kind::AcquireShared)
+}
+
+/// Whether each word in its place is the one that the place takes, where that takes one word alone. Few kinds have such a
+/// place.
+#[tactic(auto, using(crate::proofs::WordLists::own_places))]
+fn has_own_words(kind: Kind, rest: &[&[u8]]) -> bool
+    ensures { result ≡ list_all (λ (p : Placed). is_own_word p.0 p.1) (zip (form_of kind).places (contents rest.now)) }
+{
+    !takes_own_word(kind) || are_own_words(kind.places(), rest)
+}
+
+/// The same of words in places.
 fn are_own_words(places: &[Place], words: &[&[u8]]) -> bool
     ensures { result ≡ list_all (λ (p : Placed). is_own_word p.0 p.1) (words_in places.now (contents words.now)) }
 {
@@ -222,7 +238,7 @@ fn has_room(format: Format, kind: Kind, rest: &[&[u8]]) -> bool
 fn fits_behind(format: Format, kind: Kind, rest: &[&[u8]]) -> bool
     ensures { result ≡ fits_behind format (form_of kind) (contents rest.now) }
 {
-    has_kind(format, kind) && has_room(format, kind, rest) && are_own_words(kind.places(), rest)
+    has_kind(format, kind) && has_room(format, kind, rest) && has_own_words(kind, rest)
 }
 
 /// Whether the words behind the sign have the form of a kind.

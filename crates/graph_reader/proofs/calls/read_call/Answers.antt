@@ -13,7 +13,7 @@ use Rattle.graph_words.specs.Draft.{line_number, access_spelled, call_with}
 use Rattle.graph_reader.specs.Calls.{IsSeenFault}
 use Rattle.graph_reader.specs.FirstFault.{draft_fault}
 use Rattle.graph_reader.specs.Reading.{IsLineRead}
-use Rattle.graph_reader.proofs.CallFaults.{call_refused, call_left, call_events_named, call_item}
+use Rattle.graph_reader.proofs.CallFaults.{call_refused, call_left, call_events_named, call_line}
 use Rattle.graph_reader.proofs.calls.read_call.Goals as goal
 
 abbrev line_of : List ℕ → List ℕ → List ℕ → List Access → List ℕ → Line
@@ -49,4 +49,4 @@ returns-in-Ok-None c =
     call_left g n parts seen.faults c.in-Ok.ensures.faults (ap (is_name_in g.format) c.in-Some.ensures.0 ∙ c.in-Some.ensures.1)
     (subst (IsSeenFault (is_used g n) seen.faults (repeats bytes_eq parts.events)) c.in-Ok-None.field-0-is c.in-Ok-None.ensures) in
     subst (λ m. IsLineRead g (call_with g m parts) c.line_of_call.result) c.in-Some.ensures.0
-    (call_item g (call_with g n parts) c.line_of_call.result (line_of n c.in-Some-name_in.word seen.values seen.accesses seen.on) (left ∙ ap (line_fault g) (sym same)) (ap inr (sym same)) c.line_of_call.ensures)
+    (call_line g (call_with g n parts) c.line_of_call.result (line_of n c.in-Some-name_in.word seen.values seen.accesses seen.on) (left ∙ ap (line_fault g) (sym same)) (ap inr (sym same)) c.line_of_call.ensures)

@@ -6,7 +6,6 @@ use Rattle.graph_terms.specs.Table.{verb_of}
 use Rattle.graph_terms.specs.Name.{is_name_in}
 use Rattle.graph_reader.specs.FirstFault.{draft_fault}
 use Rattle.graph_reader.specs.Kinds.{kind_draft, kind_verb, IsFormFault}
-use Rattle.graph_reader.specs.declared.item.Item.TheVariants as items
 use Rattle.graph_reader.specs.Reading.{IsLineRead}
 use Rattle.std.proofs.lemmas.Bool.{leb-false}
 use Rattle.std.proofs.lemmas.List.{length-map}
@@ -30,7 +29,7 @@ returns c =
     let seen = c.in-Ok.ensures in
     let verb : c.of.result ≡ kind_verb c.args.graph.now c.args.kind ws = c.of.ensures ∙ ap (verb_of c.args.kind) seen.parts in
     let line : Line = line_with c.in-Some.name c.of.result c.in-Ok.field-0.on in
-    subst (λ n. IsLineRead c.args.graph.now (kind_draft c.args.graph.now c.args.kind n ws) (Ok (items.Line line))) c.in-Some.ensures.0
+    subst (λ n. IsLineRead c.args.graph.now (kind_draft c.args.graph.now c.args.kind n ws) (Ok line)) c.in-Some.ensures.0
     (read_as c.args.graph.now c.args.kind c.in-Some.name ws line (ap (is_name_in (c.args.graph.now).format) c.in-Some.ensures.0 ∙ c.in-Some.ensures.1)
     (subst (IsFormFault c.args.graph.now c.args.kind c.in-Some.name ws) c.in-Ok-None.field-0-is c.in-Ok-None.ensures)
     (ap (λ v. line_with c.in-Some.name v c.in-Ok.field-0.on) verb ∙ ap (line_with c.in-Some.name (kind_verb c.args.graph.now c.args.kind ws)) seen.on))

@@ -2,9 +2,9 @@ use Rattle.std.proofs.Common.{List, ℕ, Bor, map, ◌∙◌, sym, ap}
 use Rattle.std.proofs.lemmas.List.{length-map}
 use Rattle.graph_terms.specs.declared.format.Format.TheVariants.{Three}
 use Rattle.graph_terms.specs.Format.{has_since}
-use Rattle.graph_reader.proofs.LineShapes.{data_read}
+use Rattle.graph_reader.proofs.LineShapes.{data_done}
 use Rattle.graph_reader.proofs.lines.data_line.Goals as goal
 
 pub returns : goal.returns
-returns c = data_read c.args.graph.now (map (λ (w : Bor (List ℕ)). w.now) c.args.words.now) c.word.result.now c.word-2.result.now c.word-3.result.now c.read_columns.result
-    (length-map c.args.words.now _ ∙ c.if-words-ne4.false) (ap (has_since Three) (sym c.format.ensures) ∙ sym c.if-not-has_since.ensures) c.word.ensures c.word-2.ensures c.word-3.ensures c.read_columns.ensures
+returns c = data_done c.args.graph.now c.take_columns.new.graph (map (λ (w : Bor (List ℕ)). w.now) c.args.words.now) c.word.result.now c.word-2.result.now c.word-3.result.now c.take_columns.result
+    (length-map c.args.words.now _ ∙ c.if-words-ne4.false) (ap (has_since Three) (sym c.format.ensures) ∙ sym c.if-not-has_since.ensures) c.word.ensures c.word-2.ensures c.word-3.ensures c.take_columns.ensures
