@@ -1,4 +1,1 @@
-pub mod AsBox
-pub mod Bodies
-pub mod Endings
-pub mod Moves
+pub mod Faults

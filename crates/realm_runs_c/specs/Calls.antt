@@ -1,36 +1,18 @@
 -- What a program is told of the call of an operation that was taken, so that it can run the body. Columns are counted among those of data.
-use Rattle.std.specs.Prelude.{◌≡◌, ℕ, ◌⊎◌, ◌&&◌, Bool, not, cond, List, [], Option, Some, None, slice_get}
+use Rattle.std.specs.Prelude.{◌≡◌, ℕ, ◌⊎◌, List, [], Option, Some, None, slice_get}
 use Rattle.std.specs.Option.{option_map_or, MatchOption}
 use Rattle.std.specs.Arc.{arc_value}
-use Rattle.graph_terms.specs.Graph.{GraphValue, is_call, line_passes, verb_at, space_at}
+use Rattle.graph_terms.specs.Graph.{space_at}
 use Rattle.graph_terms.specs.declared.call.CallParts.{CallParts}
 use Rattle.graph_terms.specs.declared.verb.Access.{Access}
 use Rattle.graph_terms.specs.declared.verb.Mode.{Mode}
 use Rattle.graph_terms.specs.declared.verb.Mode.TheVariants.{Read, Write, Sum, Least, Most}
-use Rattle.graph_terms.specs.declared.verb.Verb.{Verb}
-use Rattle.graph_terms.specs.declared.verb.Verb.TheVariants.{Call}
 use Rattle.c_answers.specs.declared.status.TheConstants.{DONE, NO_ROOM, NONE}
 use Rattle.c_answers.specs.Buffers.{Holds, IsCut}
+use Rattle.run_handles.specs.Calls.{call_of}
+use Rattle.run_handles.specs.declared.token.Taken.{Taken}
 use Rattle.realm_runs_c.specs.declared.calls.AccessNumbers.{AccessNumbers}
 use Rattle.realm_runs_c.specs.declared.calls.Interval.{Interval}
-use Rattle.realm_runs_c.specs.declared.token.Taken.{Taken}
-
--- the call that a verb is
-abbrev pub call_in : Verb → Option CallParts
-call_in (Call c) = Some c
-call_in v = None
-
--- the call that a line is
-abbrev pub call_at : GraphValue → ℕ → Option CallParts
-call_at g i = option_map_or call_in (verb_at g i) None
-
--- the call of which the body is to be run: none of an operation that is cancelled
-abbrev pub call_of : Taken → Option CallParts
-call_of t = cond t.work.is_cancelled None (call_at (arc_value t.graph).graph t.work.line)
-
--- whether there is one
-abbrev pub has_body : Taken → Bool
-has_body t = not t.work.is_cancelled && line_passes is_call (arc_value t.graph).graph t.work.line
 
 abbrev pub values_of : Taken → List ℕ
 values_of t = option_map_or (λ (c : CallParts). c.values) (call_of t) []

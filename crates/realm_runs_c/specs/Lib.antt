@@ -1,4 +1,2 @@
 pub mod Calls
-pub mod Ends
-pub mod Held
-pub mod Runs
+pub mod Slots

@@ -2,37 +2,40 @@
 //! operation that is cancelled is told as no call: its body is not to be run.
 
 ghost use Rattle.std.specs.Prelude.{◌≡◌, ◌≢◌, option_map, slice_get};
-ghost use Rattle.std.specs.Arc.{arc_value};
-ghost use Rattle.graph_terms.specs.Graph.{is_call, line_passes};
 ghost use Rattle.c_answers.specs.Buffers.{Holds, IsCut};
-ghost use Rattle.realm_runs_c.specs.Calls.{Tells, TellsWord, access_numbers, accesses_of, call_at, call_of, has_body, interval_numbers, intervals_of, mode_number, values_of};
-ghost use Rattle.realm_runs_c.specs.Runs.{IfRun, IfTaken, run_misuse, taken_misuse};
+ghost use Rattle.run_handles.specs.Calls.{call_at, call_of};
+ghost use Rattle.run_handles.specs.Runs.{IfRun, IfTaken, run_misuse, taken_misuse};
+ghost use Rattle.realm_runs_c.specs.Calls.{Tells, TellsWord, access_numbers, accesses_of, interval_numbers, intervals_of, mode_number, values_of};
 
-use crate::held::Held;
-use crate::inside::{run_misuse, taken_misuse};
-use crate::token::{Taken, Token};
 use c_answers::buffer::hand_out;
 use c_answers::status::{DONE, EMPTY, NONE};
-use graph_model::graph::Graph;
 use graph_terms::call::Call;
-use graph_terms::verb::{Access, Mode, Verb};
+use graph_terms::verb::{Access, Mode};
+use run_handles::calls::call_of;
+use run_handles::held::Held;
+use run_handles::inside::{run_misuse, taken_misuse};
+use run_handles::token::{Taken, Token};
 use std::alloc::Global;
 
-/// How a call uses a column, by numbers: 0 it reads, 1 it reads and writes, 2 sum, 3 min, 4 max; the
-/// column of data and the space, each from 0 in the order of the text.
+/// How a call uses a column, by numbers.
 #[repr(C)]
 #[derive(Clone, Copy, Drop)]
 pub struct AccessNumbers {
+    /// 0 it reads, 1 it reads and writes, 2 sum, 3 min, 4 max.
     pub mode: u32,
+    /// The column of data, from 0 in the order of the text.
     pub column: u32,
+    /// The space, from 0 in the order of the text.
     pub space: u32,
 }
 
-/// An interval of a space, with both ends.
+/// An interval of a space.
 #[repr(C)]
 #[derive(Clone, Copy, Drop)]
 pub struct Interval {
+    /// Its first point.
     pub first: u32,
+    /// Its last point, which is in it.
     pub last: u32,
 }
 
@@ -288,42 +291,5 @@ fn interval_at(taken: &Taken, k: u32, n: u32) -> Option<(u32, u32)>
     match graph.space(access.space).intervals().get(n as usize) {
         Some(interval) => Some(*interval),
         None => None,
-    }
-}
-
-/// The call of which the body is to be run.
-fn call_of(taken: &Taken) -> Option<&Call>
-    ensures { option_map (λ c. c.now) result ≡ call_of taken.now }
-{
-    if taken.work.is_cancelled() {
-        return None;
-    }
-    call_at(taken.graph.graph(), taken.work.line())
-}
-
-/// Whether there is one.
-pub(crate) fn has_body(taken: &Taken) -> bool
-    ensures { result ≡ has_body taken.now }
-{
-    !taken.work.is_cancelled() && is_call(taken.graph.graph(), taken.work.line())
-}
-
-/// Whether a line of a graph is a call.
-pub(crate) fn is_call(graph: &Graph, line: u32) -> bool
-    ensures { result ≡ line_passes is_call graph.now line }
-{
-    line < graph.lines() && matches!(graph.line(line).verb, Verb::Call { .. })
-}
-
-/// The call that a line of a graph is.
-pub(crate) fn call_at(graph: &Graph, line: u32) -> Option<&Call>
-    ensures { option_map (λ c. c.now) result ≡ call_at graph.now line }
-{
-    if line >= graph.lines() {
-        return None;
-    }
-    match &graph.line(line).verb {
-        Verb::Call { call } => Some(call),
-        _ => None,
     }
 }

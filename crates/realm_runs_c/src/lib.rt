@@ -2,10 +2,5 @@
 #![tactic(auto)]
 
 mod calls;
-mod held;
-mod inside;
-mod run;
 mod running;
 mod starting;
-mod token;
-mod verdicts;

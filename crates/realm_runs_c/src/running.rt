@@ -9,15 +9,18 @@ ghost use Rattle.run_report.specs.Report.{evaluation_report};
 ghost use Rattle.run_core.specs.Core.{CoreValue, IsCore};
 ghost use Rattle.run_core.specs.Works.{IsFinished, IsWork};
 ghost use Rattle.c_answers.specs.Buffers.{Holds, IsCut};
-ghost use Rattle.realm_runs_c.specs.Calls.{has_body};
-ghost use Rattle.realm_runs_c.specs.Ends.{AgreesWith, IsCall, LeavesCall, NoneFaulted, report_with};
-ghost use Rattle.realm_runs_c.specs.Runs.{HoldsAny, HoldsFinished, HoldsRun, IfFinished, IfRun, IfTaken, IsOfRun, IsRunOf, IssuedBy, MayReport, PutBackBy, TakenBy, WokenBy, ends_in, finished_misuse, lines_of, no_lines, report_misuse, run_misuse, taken_misuse};
+ghost use Rattle.run_handles.specs.Calls.{has_body};
+ghost use Rattle.run_handles.specs.Ends.{AgreesWith, IsCall, LeavesCall, NoneFaulted, report_with};
+ghost use Rattle.run_handles.specs.Runs.{FinishedBy, HoldsAny, HoldsFinished, HoldsRun, IfFinished, IfRun, IfTaken, IsOfHost, IsOfRun, IsRunOf, IssuedBy, MayReport, PutBackBy, TakenBy, WokenBy, ends_in, finish_misuse, finished_misuse, lines_of, no_lines, report_misuse, run_misuse, taken_misuse};
 
-use crate::held::Held;
-use crate::inside::{count_in, issue_in, perform_in, put_back_in, report_of, take_in, woken_in};
-use crate::run::Lines;
 use c_answers::buffer::hand_out;
 use c_answers::status::{CALLS_LEFT, EMPTY, FILLED, RANGE, WORK_OUT};
+use run_handles::held::Held;
+use run_handles::inside::{
+    count_in, issue_in, perform_in, put_back_in, report_of, take_in, woken_in,
+};
+use run_handles::run::Lines;
+use run_handles::verdicts::finish_work_in;
 use std::alloc::Global;
 
 /// Issues the next line of the text: 0 with its number; 4 where all are issued; 5 where no slot is free.
@@ -78,6 +81,23 @@ pub extern "C" fn realm_work_perform(alloc: Global, work: &mut Held) -> u32
         return EMPTY;
     };
     let status = perform_in(&mut token);
+    work.put(token);
+    status
+}
+
+/// Performs a line that was taken, as `realm_work_perform`, with what its host says of the body: 0 that it is fine, 1 that it
+/// faulted. 0 always for such work; 11 also where a fault is said and no body is run, since the line is no call or is
+/// cancelled; 15 where another number is said; 20 where it was performed.
+#[unsafe(no_mangle)]
+pub extern "C" fn realm_work_finish(alloc: Global, work: &mut Held, verdict: u32) -> u32
+    requires work { IfTaken work.old.value IsOfHost }
+    ensures misuse { finish_misuse work.old.value verdict ≢ 0 → (result ≡ finish_misuse work.old.value verdict) × (work.new.value ≡ work.old.value) }
+    ensures finished { IfTaken work.old.value (λ t. finish_misuse work.old.value verdict ≡ 0 → (result ≡ 0) × HoldsFinished work.new.value (FinishedBy t verdict)) }
+{
+    let Some(mut token) = work.take(alloc) else {
+        return EMPTY;
+    };
+    let status = finish_work_in(&mut token, verdict);
     work.put(token);
     status
 }

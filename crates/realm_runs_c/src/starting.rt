@@ -12,11 +12,9 @@ ghost use Rattle.run_core.specs.Finishing.{NothingOut};
 ghost use Rattle.c_answers.specs.Numbers.{needing, nothing, verdict_of};
 ghost use Rattle.c_answers.specs.Refusals.{status_of, IsCheckRefusal};
 ghost use Rattle.c_answers.specs.declared.reading.Refusal.{Refusal as TheRefusal};
-ghost use Rattle.realm_runs_c.specs.Runs.{HoldsAny, HoldsRun, slots_for, most_slots};
+ghost use Rattle.run_handles.specs.Runs.{HoldsAny, HoldsRun};
+ghost use Rattle.realm_runs_c.specs.Slots.{most_slots, slots_for};
 
-use crate::held::Held;
-use crate::run::Run;
-use crate::token::Token;
 use c_answers::need::need_of;
 use c_answers::reading::read_checked;
 use c_answers::status::{DONE, FILLED, NO_MEMORY, SLOTS, TOO_LONG, USAGE};
@@ -25,6 +23,9 @@ use graph_terms::limits::MAX_LINES_OF_THREE;
 use graph_words::limits::text_limit;
 use race_check::checked::Checked;
 use run_core::MAX_SLOTS;
+use run_handles::held::Held;
+use run_handles::run::Run;
+use run_handles::token::Token;
 use std::alloc::Global;
 
 /// The slots of a run for which no number is given, where they are enough.

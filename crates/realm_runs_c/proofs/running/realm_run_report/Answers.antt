@@ -1,10 +1,10 @@
 use Rattle.std.proofs.Common.{rules, ◌≡◌, ◌∙◌, ℕ, false, List, Some, subst}
 use Rattle.std.specs.Prelude.{Option}
 use Rattle.c_answers.specs.Buffers.{Holds, IsCut}
-use Rattle.realm_runs_c.specs.Ends.{AgreesWith, report_with}
-use Rattle.realm_runs_c.specs.Runs.{IsRunOf, ends_in}
-use Rattle.realm_runs_c.specs.declared.token.Token.{Token}
-use Rattle.realm_runs_c.proofs.Endings.{none_agrees}
+use Rattle.run_handles.specs.Ends.{AgreesWith, report_with}
+use Rattle.run_handles.specs.Runs.{IsRunOf, ends_in}
+use Rattle.run_handles.specs.declared.token.Token.{Token}
+use Rattle.realm_runs_c.proofs.Faults.{none_agrees}
 use Rattle.realm_runs_c.proofs.running.realm_run_report.Goals as goal
 
 pub returns-in-Ok-clause-done : goal.returns-in-Ok-clause-done
