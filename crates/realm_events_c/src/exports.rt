@@ -25,7 +25,9 @@ use std::alloc::Global;
 #[repr(C)]
 #[derive(Clone, Copy, Drop)]
 pub struct RealmHandle {
+    /// The slot of the table.
     pub slot: u32,
+    /// The generation of the slot.
     pub gen_: u32,
 }
 

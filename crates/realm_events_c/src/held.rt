@@ -19,6 +19,7 @@ use std::marker::Model;
 pub struct Held {
     at: *mut u8,
     alloc: Global,
+    /// What it holds.
     pub ghost value: { Option TheToken },
 }
 

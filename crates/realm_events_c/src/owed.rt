@@ -11,7 +11,9 @@ use shared_events::{Caught, Pending, Receipt, Waiter};
 
 /// The right to end a handle, with a place.
 pub struct Owed {
+    /// The place of who is to end it.
     pub place: Place,
+    /// The right.
     pub pending: Pending,
     ghost at: { IsPendingOf (arc_value place.events) pending },
 }
@@ -25,8 +27,11 @@ impl Drop for Owed {
 /// The receipt of an end and the waiters that stood on the handle, with a place that knows of it.
 #[derive(Drop)]
 pub struct Ended {
+    /// The place, which knows of the end.
     pub place: Place,
+    /// The receipt of the end.
     pub receipt: Receipt,
+    /// The waiters that stood on the handle.
     pub caught: Caught,
     ghost at: { IsReceiptOf (arc_value place.events) receipt × IsCaughtOf (arc_value place.events) caught },
 }

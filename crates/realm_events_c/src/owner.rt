@@ -15,8 +15,11 @@ use std::sync::Arc;
 /// The right to create, with all waiters that were not given out yet, and a place.
 #[derive(Drop)]
 pub struct Owner {
+    /// The place of the owner.
     pub place: Place,
+    /// The right to create.
     pub maker: Maker,
+    /// The waiters that were not given out.
     pub waiters: WaiterSet,
     ghost at: { IsMakerOf (arc_value place.events) maker × IsSetOf (arc_value place.events) waiters },
 }

@@ -14,7 +14,9 @@ use std::sync::Arc;
 /// A thread's place at a table: what it has seen and knows.
 #[derive(Drop)]
 pub struct Place {
+    /// The table.
     pub events: Arc<Events, Global>,
+    /// What the thread has seen and knows.
     pub seat: Seat,
     ghost at: { IsAt (arc_value events) seat },
 }

@@ -20,6 +20,7 @@ use std::marker::Model;
 pub struct Held {
     at: *mut u8,
     alloc: Global,
+    /// What it holds.
     pub ghost value: { Option TheToken },
 }
 
