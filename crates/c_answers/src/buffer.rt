@@ -3,7 +3,7 @@
 ghost use Rattle.std.specs.Prelude.{◌≡◌, ◌≤◌, ◌⊎◌, length};
 ghost use Rattle.c_answers.specs.Buffers.{Holds, IsCut};
 
-use crate::status::{DONE, NO_ROOM};
+use c_numbers::status::{DONE, NO_ROOM};
 
 /// Puts a text into a buffer, and its length beside it: 0, or 6 exactly where the buffer is too short for it.
 pub fn hand_out(text: &[u8], out: &mut [u8], written: &mut u64) -> u32

@@ -7,7 +7,7 @@ ghost use Rattle.graph_meaning.specs.Rules.{Accepted};
 ghost use Rattle.graph_words.specs.Text.{GraphText};
 ghost use Rattle.c_answers.specs.Refusals.{status_of, IsReadRefusal, IsRuleRefusal, IsCheckRefusal};
 
-use crate::status::{NO_MEMORY, UNFIT, UNREAD};
+use c_numbers::status::{NO_MEMORY, UNFIT, UNREAD};
 use graph_model::graph::Graph;
 use graph_reader::laws::bytes_have_one_reading;
 use graph_reader::{ReadRefusal, read_graph};

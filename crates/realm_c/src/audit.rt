@@ -13,8 +13,8 @@ ghost use Rattle.c_answers.specs.Numbers.{nothing};
 ghost use Rattle.realm_c.specs.declared.audit.Audited.{Audited as TheAudited};
 
 use c_answers::reading::{Refusal, read_checked};
-use c_answers::status::{DONE, TOO_LONG, UNLAWFUL, UNREAD};
 use c_answers::verdict::Verdict;
+use c_numbers::status::{DONE, TOO_LONG, UNLAWFUL, UNREAD};
 use graph_answers::auditing::audit_limit;
 use graph_reader::laws::bytes_have_one_reading;
 use graph_terms::lists::LineList;

@@ -12,8 +12,8 @@ ghost use Rattle.c_answers.specs.declared.reading.Refusal.{Refusal as TheRefusal
 
 use c_answers::need::need_of;
 use c_answers::reading::read_checked;
-use c_answers::status::{DONE, TOO_LONG};
 use c_answers::verdict::Verdict;
+use c_numbers::status::{DONE, TOO_LONG};
 use graph_terms::limits::MAX_LINES_OF_THREE;
 use graph_words::limits::text_limit;
 use std::alloc::Global;

@@ -13,8 +13,8 @@ ghost use Rattle.c_answers.specs.declared.reading.Refusal.{Refusal as TheRefusal
 
 use c_answers::buffer::hand_out;
 use c_answers::reading::read_checked;
-use c_answers::status::{NO_MEMORY, TOO_LONG};
 use c_answers::texts::report_text;
+use c_numbers::status::{NO_MEMORY, TOO_LONG};
 use graph_meaning::laws::{cancelled_where_unbroken, waits_where_reached};
 use graph_words::limits::text_limit;
 use plain_eval::evaluation::eval;

@@ -7,7 +7,7 @@ ghost use Rattle.explain_top.specs.Answer.{IsAnswer};
 ghost use Rattle.explain_top.specs.declared.answer.Verdict.{Verdict as TheVerdict};
 
 use c_answers::buffer::hand_out;
-use c_answers::status::{NO_MEMORY, TOO_LONG};
+use c_numbers::status::{NO_MEMORY, TOO_LONG};
 use explain_top::explain_bytes;
 use graph_words::limits::text_limit;
 use std::alloc::Global;

@@ -6,8 +6,8 @@ ghost use Rattle.graph_words.specs.Text.{text};
 ghost use Rattle.c_answers.specs.Buffers.{Holds, IsCut};
 
 use c_answers::buffer::hand_out;
-use c_answers::status::{NO_MEMORY, USAGE};
 use c_answers::texts::graph_text;
+use c_numbers::status::{NO_MEMORY, USAGE};
 use graph_gen::make::make;
 use graph_terms::limits::MAX_LINES;
 use std::alloc::Global;

@@ -8,7 +8,7 @@ ghost use Rattle.realm_c.specs.declared.messages.RunAnswer.{RunAnswer as TheRun}
 ghost use Rattle.realm_c.specs.declared.messages.Misuse.{Misuse as TheMisuse};
 
 use c_answers::buffer::hand_out;
-use c_answers::status::{
+use c_numbers::status::{
     BUSY_COLUMN, BUSY_LOCK, CALLS_LEFT, DONE, EMPTY, FILLED, FORGOTTEN, FULL, IN_BODY, IN_USE,
     MEET, NEEDED, NEVER, NO_BODY, NO_MEMORY, NO_ROOM, NONE, NOT_YET, OTHER_RUN, OTHER_THREAD, OVER,
     OVERLAP, PERFORMED, RANGE, REPORTED, SLOTS, TOO_LONG, UNFIT, UNLAWFUL, UNPERFORMED, UNREAD,

@@ -12,8 +12,8 @@ ghost use Rattle.c_answers.specs.declared.reading.Refusal.{Refusal as TheRefusal
 
 use c_answers::buffer::hand_out;
 use c_answers::reading::read;
-use c_answers::status::{NO_MEMORY, TOO_LONG, USAGE};
 use c_answers::texts::graph_text;
+use c_numbers::status::{NO_MEMORY, TOO_LONG, USAGE};
 use graph_answers::upgrading::upgraded;
 use graph_words::limits::text_limit;
 use std::alloc::Global;

@@ -6,7 +6,7 @@ ghost use Rattle.c_answers.specs.Numbers.{why_number};
 ghost use Rattle.realm_c.specs.Words.{IsWord, HasWord, IsReasonWord, IsRuleWord, IsFaultWord};
 
 use c_answers::buffer::hand_out;
-use c_answers::status::USAGE;
+use c_numbers::status::USAGE;
 use graph_terms::why::Why;
 
 // The number of the word for the text of a trace.

@@ -7,7 +7,7 @@ use Rattle.graph_terms.specs.declared.call.CallParts.{CallParts}
 use Rattle.graph_terms.specs.declared.verb.Access.{Access}
 use Rattle.graph_terms.specs.declared.verb.Mode.{Mode}
 use Rattle.graph_terms.specs.declared.verb.Mode.TheVariants.{Read, Write, Sum, Least, Most}
-use Rattle.c_answers.specs.declared.status.TheConstants.{DONE, NO_ROOM, NONE}
+use Rattle.c_numbers.specs.declared.status.TheConstants.{DONE, NO_ROOM, NONE}
 use Rattle.c_answers.specs.Buffers.{Holds, IsCut}
 use Rattle.run_handles.specs.Calls.{call_of}
 use Rattle.run_handles.specs.declared.token.Taken.{Taken}

@@ -8,7 +8,7 @@ ghost use Rattle.run_handles.specs.Runs.{IfRun, IfTaken, run_misuse, taken_misus
 ghost use Rattle.realm_runs_c.specs.Calls.{Tells, TellsWord, access_numbers, accesses_of, interval_numbers, intervals_of, mode_number, values_of};
 
 use c_answers::buffer::hand_out;
-use c_answers::status::{DONE, EMPTY, NONE};
+use c_numbers::status::{DONE, EMPTY, NONE};
 use graph_terms::call::Call;
 use graph_terms::verb::{Access, Mode};
 use run_handles::calls::call_of;

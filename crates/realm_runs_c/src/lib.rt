@@ -2,5 +2,6 @@
 #![tactic(auto)]
 
 mod calls;
+mod reporting;
 mod running;
 mod starting;

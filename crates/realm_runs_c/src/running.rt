@@ -1,24 +1,17 @@
 //! Runs whose lines the threads of a caller perform: one call at a time works on a run, and each line is performed
 //! beside the others. Each call answers what a handle is that it can't be given, and changes nothing then.
 
-ghost use Rattle.std.specs.Prelude.{◌≡◌, ◌≢◌, ℕ, ◌<◌, ◌≤◌, ◌⊎◌, Bool, true, None, length};
+ghost use Rattle.std.specs.Prelude.{◌≡◌, ◌≢◌, ◌<◌, ◌≤◌, true, None, length};
 ghost use Rattle.std.specs.Arc.{arc_value};
-ghost use Rattle.graph_terms.specs.Graph.{GraphValue};
 ghost use Rattle.graph_terms.specs.declared.outcome.End.TheVariants.{Done};
-ghost use Rattle.run_report.specs.Report.{evaluation_report};
 ghost use Rattle.run_core.specs.Core.{CoreValue, IsCore};
 ghost use Rattle.run_core.specs.Works.{IsFinished, IsWork};
-ghost use Rattle.c_answers.specs.Buffers.{Holds, IsCut};
 ghost use Rattle.run_handles.specs.Calls.{has_body};
-ghost use Rattle.run_handles.specs.Ends.{AgreesWith, IsCall, LeavesCall, NoneFaulted, report_with};
-ghost use Rattle.run_handles.specs.Runs.{FinishedBy, HoldsAny, HoldsFinished, HoldsRun, IfFinished, IfRun, IfTaken, IsOfHost, IsOfRun, IsRunOf, IssuedBy, MayReport, PutBackBy, TakenBy, WokenBy, ends_in, finish_misuse, finished_misuse, lines_of, no_lines, report_misuse, run_misuse, taken_misuse};
+ghost use Rattle.run_handles.specs.Runs.{FinishedBy, HoldsAny, HoldsFinished, HoldsRun, IfFinished, IfRun, IfTaken, IsOfHost, IsOfRun, IssuedBy, PutBackBy, TakenBy, WokenBy, finish_misuse, finished_misuse, lines_of, no_lines, run_misuse, taken_misuse};
 
-use c_answers::buffer::hand_out;
-use c_answers::status::{CALLS_LEFT, EMPTY, FILLED, RANGE, WORK_OUT};
+use c_numbers::status::{EMPTY, FILLED, RANGE};
 use run_handles::held::Held;
-use run_handles::inside::{
-    count_in, issue_in, perform_in, put_back_in, report_of, take_in, woken_in,
-};
+use run_handles::inside::{count_in, issue_in, perform_in, put_back_in, take_in, woken_in};
 use run_handles::run::Lines;
 use run_handles::verdicts::finish_work_in;
 use std::alloc::Global;
@@ -150,42 +143,6 @@ pub extern "C" fn realm_run_state(alloc: Global, run: &mut Held, lines: &mut Lin
     let status = count_in(&mut token, lines);
     run.put(token);
     status
-}
-
-/// Does on the calling thread what is left of a run of which no work is out, and puts the report into `out` with its
-/// length beside it: 0; 6 exactly where `out` is too short for it, and it is cut; 17 only where work is out, and 26 only where
-/// a call is left of which a body would be run, and nothing is changed; 7. It may be called again.
-#[unsafe(no_mangle)]
-pub extern "C" fn realm_run_report(
-    alloc: Global,
-    run: &mut Held,
-    out: &mut [u8],
-    written: &mut u64,
-) -> u32
-    ensures misuse { report_misuse run.old.value ≢ 0 → (result ≡ report_misuse run.old.value) × (run.new.value ≡ run.old.value) }
-    ensures work_out { result ≡ WORK_OUT → HoldsRun run.old.value (λ c. 0 < (lines_of c).out) × (run.new.value ≡ run.old.value) }
-    ensures calls_left { result ≡ CALLS_LEFT → HoldsRun run.old.value LeavesCall × (run.new.value ≡ run.old.value) }
-    ensures answers { (g : GraphValue) → MayReport run.old.value g → (result ≡ 0) ⊎ ((result ≡ 6) ⊎ ((result ≡ 7) ⊎ (result ≡ CALLS_LEFT))) }
-    ensures done { (g : GraphValue) (faults : ℕ → Bool) → IsRunOf run.old.value g → AgreesWith g (ends_in run.old.value) faults → result ≡ 0
-        → Holds (report_with faults g) out.old out.new written.new }
-    ensures cut { (g : GraphValue) (faults : ℕ → Bool) → IsRunOf run.old.value g → AgreesWith g (ends_in run.old.value) faults → result ≡ 6
-        → IsCut (report_with faults g) out.old out.new written.new }
-    ensures unfaulted { (g : GraphValue) → IsRunOf run.old.value g → NoneFaulted g (ends_in run.old.value)
-        → (result ≡ 0 → Holds (evaluation_report g) out.old out.new written.new) × (result ≡ 6 → IsCut (evaluation_report g) out.old out.new written.new) }
-    ensures bodies { (g : GraphValue) (i : ℕ) → IsRunOf run.old.value g → IsCall g i → ends_in run.new.value i ≡ ends_in run.old.value i }
-    ensures again { (g : GraphValue) → MayReport run.old.value g → MayReport run.new.value g }
-    ensures untouched { result ≢ 0 → result ≢ 6 → (out.new ≡ out.old) × (written.new ≡ 0) }
-{
-    *written = 0;
-    let Some(mut token) = run.take(alloc) else {
-        return EMPTY;
-    };
-    let report = report_of(alloc, &mut token);
-    run.put(token);
-    match report {
-        Ok(report) => hand_out(report.as_slice(), out, written),
-        Err(status) => status,
-    }
 }
 
 /// Frees what a handle of a run holds, if anything.

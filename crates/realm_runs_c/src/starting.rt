@@ -17,8 +17,8 @@ ghost use Rattle.realm_runs_c.specs.Slots.{most_slots, slots_for};
 
 use c_answers::need::need_of;
 use c_answers::reading::read_checked;
-use c_answers::status::{DONE, FILLED, NO_MEMORY, SLOTS, TOO_LONG, USAGE};
 use c_answers::verdict::Verdict;
+use c_numbers::status::{DONE, FILLED, NO_MEMORY, SLOTS, TOO_LONG, USAGE};
 use graph_terms::limits::MAX_LINES_OF_THREE;
 use graph_words::limits::text_limit;
 use race_check::checked::Checked;

@@ -12,12 +12,12 @@ use Rattle.graph_meaning.specs.Effect.{zero_cells}
 use Rattle.graph_meaning.specs.Evaluation.{answer_of, cells_with, column_of, end_with, evaluation_with, outcome_with, phase_value_with}
 use Rattle.graph_meaning.specs.Laws.{WaitsWhereReachedWith}
 use Rattle.graph_meaning.specs.Path.{Reached}
-use Rattle.run_report.specs.Report.{FitsGraph, report}
+use Rattle.run_report.specs.Report.{FitsGraph}
 use Rattle.run_state.specs.Run.{LineStage, Unissued, Issued, Out, Ending, Ended, end_so_far, ended, kept_end, stage_at, stage_ended}
 use Rattle.run_state.specs.Verdicts.{effect_by}
 use Rattle.run_core.specs.Core.{CoreValue, IsCore, MayFault, Tells, has_faulted, kept_faults}
 use Rattle.run_core.specs.Finishing.{GoesOn}
-use Rattle.run_handles.specs.Ends.{AgreesWith, IsCall, IsEvaluated, LeavesNoCall, end_in, end_of, report_with}
+use Rattle.run_handles.specs.Ends.{AgreesWith, IsCall, IsEvaluated, LeavesNoCall, end_in, end_of}
 
 -- WHICH CALLS MAY FAULT: those that did
 tells_itself : (x : End) → Tells x (has_faulted x)
@@ -32,7 +32,7 @@ kept_may c = record {
   told = λ i hosted call. subst (λ (h : Bool). Tells (end_in c i) (h && has_faulted (end_in c i))) (sym hosted) (tells_itself (end_in c i));
 }
 
--- WHAT WAS EVALUATED fits its graph, and its report is that of the evaluation
+-- WHAT WAS EVALUATED fits its graph
 pub evaluated_fits : (g : GraphValue) (o : Outcome) → IsEvaluated g o → FitsGraph g o
 evaluated_fits g o is =
     let faults : ℕ → Bool = λ i. has_faulted (end_of o i) in
@@ -43,9 +43,6 @@ evaluated_fits g o is =
       phases = length-map-range_with_len (phase_value_with does zero_cells g) 0 (length g.lines);
       columns = length-map-range_with_len (column_of g (cells_with zero_cells (evaluation_with does zero_cells g))) 0 (length (columns g));
     })
-
-pub evaluated_report : (g : GraphValue) (o : Outcome) (faults : ℕ → Bool) → IsEvaluated g o → AgreesWith g (end_of o) faults → report g o ≡ report_with faults g
-evaluated_report g o faults is agrees = ap (report g) (is faults agrees)
 
 -- HOW A LINE HAS ENDED SO FAR: as it ends in the evaluation, or not at all
 so_far : (s : LineStage) (e : End) → ((x : End) → kept_end s ≡ Some x → e ≡ x) → (end_so_far s ≡ Waiting) ⊎ (end_so_far s ≡ e)

@@ -16,7 +16,7 @@ use Rattle.run_parts.specs.declared.answers.Issue.{Issue}
 use Rattle.run_parts.specs.declared.answers.Issue.TheVariants as issues
 use Rattle.run_parts.specs.declared.answers.Stage.TheVariants as stages
 use Rattle.run_parts.specs.declared.answers.Thing.TheVariants as things
-use Rattle.c_answers.specs.declared.status.TheConstants.{WRONG, EMPTY, RANGE, UNPERFORMED, REPORTED, PERFORMED}
+use Rattle.c_numbers.specs.declared.status.TheConstants.{WRONG, EMPTY, RANGE, UNPERFORMED, REPORTED, PERFORMED}
 use Rattle.run_handles.specs.Calls.{has_body}
 use Rattle.run_handles.specs.Ends.{end_in, end_of}
 use Rattle.run_handles.specs.declared.run.Lines.{Lines}

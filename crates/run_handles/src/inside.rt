@@ -1,7 +1,7 @@
 //! What is done to what handles of runs and of work hold. A value of another kind than a call asks for stays, and the
 //! number that says so is answered.
 
-ghost use Rattle.std.specs.Prelude.{◌≡◌, ◌≢◌, ℕ, ◌<◌, ◌≤◌, ◌⊎◌, Bool, true, None, Some, IfOk, IfErr, IfSome, length};
+ghost use Rattle.std.specs.Prelude.{◌≡◌, ◌≢◌, ℕ, ◌<◌, ◌≤◌, ◌⊎◌, true, None, Some, IfOk, IfErr, IfSome, length};
 ghost use Rattle.std.specs.Arc.{arc_value};
 ghost use Rattle.graph_terms.specs.Graph.{GraphValue};
 ghost use Rattle.graph_terms.specs.declared.outcome.End.TheVariants.{Done};
@@ -9,17 +9,16 @@ ghost use Rattle.run_core.specs.Core.{CoreValue, IsCore};
 ghost use Rattle.run_core.specs.Finishing.{NothingOut};
 ghost use Rattle.run_core.specs.Works.{IsFinished, IsWork};
 ghost use Rattle.run_handles.specs.Calls.{has_body};
-ghost use Rattle.run_handles.specs.Ends.{AgreesWith, IsCall, LeavesCall, end_in, report_with};
+ghost use Rattle.run_handles.specs.Ends.{IsCall, LeavesCall, end_in};
 ghost use Rattle.run_handles.specs.Runs.{HoldsFinished, HoldsOver, HoldsRun, HoldsTaken, IfFinished, IfRun, IfTaken, IsOfRun, IsRunOf, IsTaken, IssuedBy, MayReport, PutBackBy, TakenBy, WokenBy, attempt_number, ends_in, finished_misuse, graph_over, held_of, issue_number, issued_line, lines_of, other_of, report_misuse, run_misuse, taken_misuse};
 
 use crate::held::{Held, room};
 use crate::run::{Lines, Run};
 use crate::token::{Taken, Token};
-use c_answers::status::{
+use c_numbers::status::{
     BUSY_COLUMN, BUSY_LOCK, CALLS_LEFT, DONE, EMPTY, FULL, NEVER, NO_MEMORY, NONE, NOT_YET, OVER,
     PERFORMED, RANGE, REPORTED, UNPERFORMED, WORK_OUT, WRONG,
 };
-use c_answers::texts::outcome_text;
 use race_check::checked::Checked;
 use run_core::{Attempt, Finished, Issue, Thing};
 use std::alloc::Global;
@@ -303,7 +302,7 @@ pub fn count_in(token: &mut Token, lines: &mut Lines) -> u32
     }
 }
 
-/// Brings a run to its end, unless work is out or a call is left.
+/// The same of a run that goes on.
 fn end_of(alloc: Global, run: Run) -> (Token, u32)
     ensures over { result.1 ≡ 0 → HoldsOver (Some result.0) (λ o. graph_over o ≡ run.graph) }
     ensures kept { result.1 ≢ 0 → result.0 ≡ Token.Run run }
@@ -320,8 +319,8 @@ fn end_of(alloc: Global, run: Run) -> (Token, u32)
     (Token::Over(run.end()), DONE)
 }
 
-/// Brings what is held to its end, unless it is no run, work is out or a call is left.
-fn finish_in(alloc: Global, token: &mut Token) -> u32
+/// Brings a run to its end, unless work is out or a call is left.
+pub fn finish_in(alloc: Global, token: &mut Token) -> u32
     ensures misuse { report_misuse (Some token.old) ≢ 0 → (result ≡ report_misuse (Some token.old)) × (token.new ≡ token.old) }
     ensures over { (g : GraphValue) → IsRunOf (Some token.old) g → result ≡ 0 → HoldsOver (Some token.new) (λ o. graph_over o ≡ g) }
     ensures out { result ≡ WORK_OUT → HoldsRun (Some token.old) (λ c. 0 < (lines_of c).out) × (token.new ≡ token.old) }
@@ -351,42 +350,5 @@ fn finish_in(alloc: Global, token: &mut Token) -> u32
             WRONG
         }
         Token::Empty => WRONG,
-    }
-}
-
-/// The report of a run that is over. None comes where memory ran out.
-fn report_in(alloc: Global, token: &Token) -> Option<Vec<u8>>
-    ensures { (g : GraphValue) (faults : ℕ → Bool) → HoldsOver (Some token.now) (λ o. graph_over o ≡ g) → AgreesWith g (ends_in (Some token.now)) faults
-        → IfSome result (λ report. report.items ≡ report_with faults g) }
-{
-    match token {
-        Token::Over(over) => {
-            over.fits();
-            outcome_text(alloc, over.graph.graph(), &over.found)
-        }
-        _ => None,
-    }
-}
-
-/// Brings a run to its end, and gives its report, or the number of why not.
-pub fn report_of(alloc: Global, token: &mut Token) -> Result<Vec<u8>, u32>
-    ensures report { IfOk result (λ report. (g : GraphValue) (faults : ℕ → Bool) → IsRunOf (Some token.old) g → AgreesWith g (ends_in (Some token.old)) faults
-        → report.items ≡ report_with faults g) }
-    ensures kind { IfOk result (λ _. report_misuse (Some token.old) ≡ 0) }
-    ensures misuse { IfErr result (λ status. report_misuse (Some token.old) ≢ 0 → (status ≡ report_misuse (Some token.old)) × (token.new ≡ token.old)) }
-    ensures out { IfErr result (λ status. status ≡ WORK_OUT → HoldsRun (Some token.old) (λ c. 0 < (lines_of c).out) × (token.new ≡ token.old)) }
-    ensures left { IfErr result (λ status. status ≡ CALLS_LEFT → HoldsRun (Some token.old) LeavesCall × (token.new ≡ token.old)) }
-    ensures answers { IfErr result (λ status. (g : GraphValue) → MayReport (Some token.old) g → (status ≡ 7) ⊎ (status ≡ CALLS_LEFT)) }
-    ensures ends { (g : GraphValue) (i : ℕ) → IsRunOf (Some token.old) g → IsCall g i → ends_in (Some token.new) i ≡ ends_in (Some token.old) i }
-    ensures again { (g : GraphValue) → MayReport (Some token.old) g → MayReport (Some token.new) g }
-    ensures not_done { IfErr result (λ status. (status ≢ 0) × (status ≢ 6)) }
-{
-    let status = finish_in(alloc, token);
-    if status != DONE {
-        return Err(status);
-    }
-    match report_in(alloc, token) {
-        Some(report) => Ok(report),
-        None => Err(NO_MEMORY),
     }
 }

@@ -47,10 +47,12 @@ pub struct Over {
 impl Over {
     ghost use Rattle.std.specs.Arc.{arc_value};
     ghost use Rattle.run_report.specs.Report.{FitsGraph};
+    ghost use Rattle.run_handles.specs.Ends.{IsEvaluated};
 
-    /// What a run gave has lists as long as its graph's.
-    pub(crate) fn fits(&self)
-        ensures { FitsGraph (arc_value self.now.graph).graph self.now.found }
+    /// What a run gave has lists as long as its graph's, and is what the evaluation gives in which those calls fault that did.
+    pub fn fits(&self)
+        ensures fits { FitsGraph (arc_value self.now.graph).graph self.now.found }
+        ensures evaluated { IsEvaluated (arc_value self.now.graph).graph self.now.found }
     {
         let _found = &self.found;
     }

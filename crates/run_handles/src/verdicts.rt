@@ -8,7 +8,7 @@ ghost use Rattle.run_handles.specs.Runs.{FinishedBy, HoldsFinished, IfTaken, IsO
 use crate::calls::has_body;
 use crate::inside::taken_misuse;
 use crate::token::{Taken, Token};
-use c_answers::status::{DONE, RANGE, WRONG};
+use c_numbers::status::{DONE, RANGE, WRONG};
 use graph_terms::outcome::Verdict;
 use run_core::Finished;
 

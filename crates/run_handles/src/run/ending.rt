@@ -12,7 +12,7 @@ ghost use Rattle.run_handles.specs.Runs.{lines_of};
 use crate::calls::is_call;
 use crate::run::Run;
 use crate::token::Over;
-use c_answers::status::{CALLS_LEFT, DONE, NO_MEMORY, WORK_OUT};
+use c_numbers::status::{CALLS_LEFT, DONE, NO_MEMORY, WORK_OUT};
 use explanations::reaches::{Reach, reach_at, waiting_lines};
 use graph_meaning::laws::waits_where_reached_for_all_effects;
 use graph_terms::outcome::Outcome;

@@ -2,12 +2,12 @@ use Rattle.std.proofs.Common.{◌≡◌, ℕ, inl, inr, Some, sym, subst}
 use Rattle.std.specs.Prelude.{◌⊎◌}
 use Rattle.graph_terms.specs.Graph.{GraphValue}
 use Rattle.graph_terms.specs.declared.outcome.End.{End}
-use Rattle.c_answers.specs.declared.status.TheConstants.{CALLS_LEFT, WORK_OUT}
+use Rattle.c_numbers.specs.declared.status.TheConstants.{CALLS_LEFT, WORK_OUT}
 use Rattle.run_core.specs.Core.{Tells}
 use Rattle.run_handles.specs.Runs.{IsRunOf, MayReport}
 use Rattle.run_handles.specs.declared.token.Token.{Token}
 use Rattle.run_handles.specs.declared.token.Token.TheVariants as token
-use Rattle.run_handles.proofs.inside.report_of.Goals as goal
+use Rattle.realm_runs_c.proofs.reporting.report_of.Goals as goal
 
 may_is_run : (held : Token) (g : GraphValue) → MayReport (Some held) g → IsRunOf (Some held) g
 may_is_run (token.Run c) g may = may.0

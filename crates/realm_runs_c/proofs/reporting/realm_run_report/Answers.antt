@@ -4,8 +4,8 @@ use Rattle.c_answers.specs.Buffers.{Holds, IsCut}
 use Rattle.run_handles.specs.Ends.{AgreesWith, report_with}
 use Rattle.run_handles.specs.Runs.{IsRunOf, ends_in}
 use Rattle.run_handles.specs.declared.token.Token.{Token}
-use Rattle.realm_runs_c.proofs.Faults.{none_agrees}
-use Rattle.realm_runs_c.proofs.running.realm_run_report.Goals as goal
+use Rattle.realm_runs_c.proofs.Reports.{none_agrees}
+use Rattle.realm_runs_c.proofs.reporting.realm_run_report.Goals as goal
 
 pub returns-in-Ok-clause-done : goal.returns-in-Ok-clause-done
 returns-in-Ok-clause-done c = λ g faults here agrees zero.
