@@ -1,4 +1,5 @@
 pub mod Spaces
-pub mod Search
-pub mod Chosen
+pub mod ColumnSpaces
+pub mod Noting
+pub mod Parting
 pub mod Public

@@ -1,3 +1,4 @@
 pub mod Parts
-pub mod Search
+pub mod Accessed
+pub mod Column
 pub mod Laws

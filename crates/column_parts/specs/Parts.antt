@@ -5,7 +5,7 @@ use Rattle.index_spaces.specs.Space.{IsWithin, Meet}
 use Rattle.graph_terms.specs.declared.verb.Access.{Access}
 use Rattle.graph_terms.specs.Graph.{GraphValue, columns, space_at}
 use Rattle.graph_terms.specs.Access.{accesses}
-use Rattle.column_pieces.specs.Pieces.{Unions, IsConnected, IsWhole}
+use Rattle.column_pieces.specs.Pieces.{Unions, IsAccessed, IsConnected, IsWhole}
 use Rattle.column_pieces.specs.declared.pieces.TheConstants.{MAX_COLUMN_PIECES}
 use Rattle.column_parts.specs.declared.parts.Part.{Part}
 use Rattle.column_parts.specs.declared.parts.Part.TheVariants.{Declared, Union}
@@ -53,3 +53,7 @@ CoversLine g lists i = (a : Access) → Contains (accesses g i) a → IsCovered 
 pub record AreFound (g : GraphValue) (found : List Unions) (n : ℕ) : Type 0 where
   pub lists : AreLists g found
   pub covers : (i : ℕ) → i < n → CoversLine g found i
+
+-- no access has all points of a part that is a union
+abbrev pub AreNeeded : GraphValue → List (Vec Part Global) → Type 0
+AreNeeded g lists = (c s : ℕ) (v : Vec Part Global) (t : List (ℕ × ℕ)) → slice_get lists c ≡ Some v → Contains v.items (Union t) → IsAccessed g c s → IsWithin t (space_at g s) → ⊥

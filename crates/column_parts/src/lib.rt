@@ -1,9 +1,10 @@
 //! The parts into which the accesses of a column fall.
 #![tactic(auto)]
 
+mod accessed;
+mod column;
 mod found;
-mod joined;
 pub mod parts;
-mod within;
+mod wholes;
 
 pub use found::find_parts;

@@ -7,6 +7,6 @@ use index_spaces::space::Space;
 pub enum Part {
     /// Those of a declared space, by its number.
     Declared(u32),
-    /// Those of several spaces. None had all of them when they were put together.
+    /// Those of several spaces. No access names them all.
     Union(Space),
 }

@@ -1,11 +1,11 @@
 -- Pieces lie within their columns.
-use Rattle.std.proofs.Common.{◌≡◌, ℕ, ◌<◌, true, inl, inr, length, get_or, subst, arith}
+use Rattle.std.proofs.Common.{◌≡◌, ℕ, ◌<◌, true, ◌⊎◌, inl, inr, length, get_or, subst, arith}
 use Rattle.std.proofs.lemmas.List.Elements.{Contains-get_or}
 use Rattle.index_spaces.specs.Space.{has_point}
 use Rattle.graph_terms.specs.Fits.{IsGraph}
 use Rattle.graph_terms.specs.Graph.{GraphValue, columns, column_space}
 use Rattle.graph_meaning.proofs.Public.{accesses_fit}
-use Rattle.column_pieces.specs.Pieces.{IsAccessed, HasManyApart, Linked, one, more}
+use Rattle.column_pieces.specs.Pieces.{IsAccessed, HasManyApart, HasWide, Linked, one, more}
 use Rattle.column_pieces.specs.Laws.{PiecesLieWithin, ConnectedLieWithin}
 
 module _ (g : GraphValue) (fits : IsGraph g) where
@@ -13,10 +13,11 @@ module _ (g : GraphValue) (fits : IsGraph g) where
   accessed_below c s a = subst (λ k. k < length (columns g)) a.3 (accesses_fit g a.0 a.1 fits a.2).column
 
   -- a column that stays whole is accessed
-  whole_below : (c : ℕ) → HasManyApart g c → c < length (columns g)
-  whole_below c apart =
+  whole_below : (c : ℕ) → HasManyApart g c ⊎ HasWide g c → c < length (columns g)
+  whole_below c (inl apart) =
       let many : 64 < length apart.spaces = apart.many in
       accessed_below c (get_or apart.spaces 0 0) (apart.accessed (get_or apart.spaces 0 0) (Contains-get_or apart.spaces 0 0 (omega arith)))
+  whole_below c (inr wide) = accessed_below c wide.connected.space wide.connected.accessed
 
   -- a point that is linked is one of the column
   linked_within : {c p q : ℕ} → Linked g c p q → has_point (column_space g c) p ≡ true

@@ -1,7 +1,8 @@
 -- Pieces: each is of a column, over a declared space, or over a union of such spaces. The graph of pieces declares each union, and has a field for each piece.
 use Rattle.std.specs.Prelude.{◌≡◌, ℕ, ◌+◌, ◌-◌, ◌%◌, ◌/◌, ◌<◌, ◌==◌, ◌⊎◌, Bool, cond, nat_lt, not, ◌&&◌, List, [], ◌∷◌, ◌++◌, length, filter, position, find, Contains, slice_get, Some, IsTrue, codes}
 use Rattle.std.specs.Option.{option_map_or}
-use Rattle.index_spaces.specs.Space.{has_point, point_at, IsWithin, Meet}
+use Rattle.index_spaces.specs.Space.{has_point, point_at, IsSpace, IsWithin}
+use Rattle.index_spaces.specs.declared.limits.TheConstants.{MAX_INTERVALS_OF_THREE}
 use Rattle.graph_terms.specs.declared.decl.Decl.{Decl}
 use Rattle.graph_terms.specs.declared.decl.Decl.TheVariants.{Space, Inst}
 use Rattle.graph_terms.specs.declared.format.Format.TheVariants.{Three}
@@ -94,13 +95,6 @@ graph_of_pieces g unions pieces = record {
 abbrev pub IsAccessed : GraphValue → ℕ → ℕ → Type 0
 IsAccessed g c s = (i : ℕ) × (a : Access) × Contains (accesses g i) a × (a.column ≡ c) × (a.space ≡ s)
 
--- a column is accessed over more spaces than it is cut into, no two of which have a point in common
-pub record HasManyApart (g : GraphValue) (c : ℕ) : Type 0 where
-  pub spaces : List ℕ
-  pub accessed : (s : ℕ) → Contains spaces s → IsAccessed g c s
-  pub apart : (j k s t : ℕ) → slice_get spaces j ≡ Some s → slice_get spaces k ≡ Some t → Meet (space_at g s) (space_at g t) → j ≡ k
-  pub many : MAX_COLUMN_PIECES < length spaces
-
 -- two points of a column are linked where an access names both, or where points between them are so
 pub data Linked (g : GraphValue) (c : ℕ) : ℕ → ℕ → Type 0 where
   one : {p q : ℕ} → (i : ℕ) (a : Access) → Contains (accesses g i) a → a.column ≡ c → IsTrue (has_point (space_at g a.space) p) → IsTrue (has_point (space_at g a.space) q) → Linked g c p q
@@ -113,14 +107,28 @@ pub record IsConnected (g : GraphValue) (c : ℕ) (t : List (ℕ × ℕ)) : Type
   pub has : IsWithin (space_at g space) t
   pub linked : (p q : ℕ) → IsTrue (has_point t p) → IsTrue (has_point t q) → Linked g c p q
 
+-- a column is accessed over more spaces than it is cut into, no two of which hang together
+pub record HasManyApart (g : GraphValue) (c : ℕ) : Type 0 where
+  pub spaces : List ℕ
+  pub accessed : (s : ℕ) → Contains spaces s → IsAccessed g c s
+  pub apart : (j k s t p q : ℕ) → slice_get spaces j ≡ Some s → slice_get spaces k ≡ Some t → IsTrue (has_point (space_at g s) p) → IsTrue (has_point (space_at g t) q) → Linked g c p q → j ≡ k
+  pub many : MAX_COLUMN_PIECES < length spaces
+
+-- points of a column that hang together have more intervals than a space may have where it is declared
+pub record HasWide (g : GraphValue) (c : ℕ) : Type 0 where
+  pub points : List (ℕ × ℕ)
+  pub connected : IsConnected g c points
+  pub is_space : IsSpace points
+  pub wide : MAX_INTERVALS_OF_THREE < length points
+
 -- a column stays whole: these are all of its points, and no others
 pub record IsWhole (g : GraphValue) (c : ℕ) (t : List (ℕ × ℕ)) : Type 0 where
   pub all_points : IsWithin (column_space g c) t
   pub no_others : IsWithin t (column_space g c)
-  pub cause : HasManyApart g c
+  pub cause : HasManyApart g c ⊎ HasWide g c
 
 -- These are the pieces of a graph, of which some are over these unions: each access lies within one piece of its column, two pieces of one column have no point
--- in common, and the points of each piece hang together, unless its column is accessed over too many spaces that lie apart: that one stays whole.
+-- in common, and the points of each piece hang together, unless its column has too many components, or one of too many intervals: that column stays whole.
 pub record ArePieces (g : GraphValue) (unions : Unions) (pieces : List Piece) : Type 0 where
   pub covers : (i : ℕ) (a : Access) → Contains (accesses g i) a → (x : Piece) × Contains pieces x × (x.column ≡ a.column) × IsWithin (space_at g a.space) (piece_space g unions x.space)
   pub apart : (x y : Piece) (c p : ℕ) → Contains pieces x → Contains pieces y → IsTrue (has_cell g unions c p x) → IsTrue (has_cell g unions c p y) → x ≡ y

@@ -1,6 +1,7 @@
-//! Two lists of ascending intervals, put together.
+//! Intervals, put together.
 
-ghost use Rattle.std.specs.Prelude.{◌≡◌, ◌<◌, ◌≤◌, ◌||◌, ◌⊎◌, ◌^◌, ℕ, IfOk, IsTrue, length, get_or, false};
+ghost use Rattle.std.specs.Prelude.{◌≡◌, ◌<◌, ◌≤◌, ◌||◌, ◌⊎◌, ◌^◌, ℕ, IfOk, IsTrue, Contains, length, get_or, false};
+ghost use Rattle.std.specs.List.Sorted.{IsNonDecreasingBy};
 ghost use Rattle.index_spaces.specs.Space.{has_point, interval_has, IsSpace};
 ghost use Rattle.space_unions.specs.Ascending.{AscendTo, Absorbs, IsNext};
 
@@ -32,6 +33,25 @@ pub(crate) fn merged(
             last = absorb(&mut merged, last, second[b])?;
             b += 1;
         }
+    }
+    merged.push(last)?;
+    Ok(merged)
+}
+
+/// The intervals of the points that lie in some intervals, which stand by their first points.
+pub(crate) fn merged_in_order(
+    alloc: Global,
+    intervals: &[(u32, u32)],
+) -> Result<Vec<(u32, u32)>, AllocError>
+    requires some { 0 < length intervals.now }
+    requires run_up { (i : ℕ × ℕ) → Contains intervals.now i → i.0 ≤ i.1 }
+    requires sorted { IsNonDecreasingBy (λ (i : ℕ × ℕ). i.0) intervals.now }
+    ensures { IfOk result (λ v. (p : ℕ) → has_point v.items p ≡ has_point intervals.now p) }
+{
+    let mut merged = Vec::new(alloc);
+    let mut last = intervals[0];
+    for interval in intervals {
+        last = absorb(&mut merged, last, *interval)?;
     }
     merged.push(last)?;
     Ok(merged)

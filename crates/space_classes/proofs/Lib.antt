@@ -1,0 +1,4 @@
+pub mod Sweeping
+pub mod Spanning
+pub mod Choosing
+pub mod Unions

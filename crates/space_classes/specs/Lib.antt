@@ -1,0 +1,4 @@
+pub mod Classes
+pub mod Spans
+pub mod Sweep
+pub mod Points
