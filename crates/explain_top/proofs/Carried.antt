@@ -15,7 +15,7 @@ use Rattle.refused_words.specs.Places.{place_at}
 use Rattle.explain_text.specs.Named.{IsNamedWord, IsInside, given_names, given_name, first_place, told_new, told_in, told_word, with_told, once_words, third_of, third_at, over_word, space_in, below_text, named_by, named_text, named_texts, space_text}
 use Rattle.explain_text.specs.Shown.{shown, shown_for, more_text}
 use Rattle.explain_text.specs.declared.naming.NamedWord.{NamedWord}
-use Rattle.explain_text.proofs.Public.{place_inside}
+use Rattle.explain_text.proofs.Public.{ended_stays, place_inside}
 use Rattle.explain_text.specs.TextLines.{TextLines}
 use Rattle.explain_text.specs.Unread.{unread_text, mark_text, refused_text, limit_text, ended_text}
 use Rattle.refused_words.specs.Refused.{IsRefusedWord}
@@ -24,7 +24,7 @@ use Rattle.refused_words.specs.Limits.{quantity_value}
 use Rattle.refused_words.specs.declared.limits.Quantity.{Quantity}
 use Rattle.explain_top.specs.Answer.{asked, IsMarkedText, IsUnreadText, first_text, AreNamed, TellsSpace, most_names, limit_for, names_for, space_for, tells_names, refused_line, words_of, advice_text}
 use Rattle.explain_top.specs.Columns.{columns_text}
-use Rattle.explain_top.specs.Missing.{AreSettled, AreSettledBy, IsReached, IsTold, with_lines}
+use Rattle.explain_top.specs.Missing.{AreSettled, AreSettledBy, IsEndSettled, IsReached, IsTold, with_lines}
 use Rattle.explain_top.specs.declared.answer.FrontText.{FrontText}
 use Rattle.explain_top.proofs.Marking.{marked, marks}
 use Rattle.graph_terms.specs.Graph.{GraphValue}
@@ -220,10 +220,14 @@ module _ (number : ℕ) (reason : Why) (g : GraphValue) (mark : Option ℕ) (lim
     sized : length (given_names ls.lines) ≡ length ls.lines
     sized = simp length-map
 
-    ended_same : ended ≡ None → ended_text g (with_lines ls more) ended ≡ ended_text g ls ended
-    ended_same none = ap (ended_text g (with_lines ls more)) none ∙ sym (ap (ended_text g ls) none)
+    ended_same : IsEndSettled g ls ended → ended_text g (with_lines ls more) ended ≡ ended_text g ls ended
+    ended_same = ended_by ended
+      where
+        ended_by : (o : Option ℕ) → IsEndSettled g ls o → ended_text g (with_lines ls more) o ≡ ended_text g ls o
+        ended_by None settled = refl
+        ended_by (Some i) settled = ended_stays g ls more i settled
 
-    by_first : number - 1 < length ls.lines → AreSettledBy more named space ended → ws ≡ words_of ls.lines number → IsRefusedWord g reason ws mark → option_map quantity_value limit ≡ limit_for g ws reason → MatchOption mark (ended ≡ None) (λ k. IsEndedBy g ws k ended)
+    by_first : number - 1 < length ls.lines → AreSettledBy g ls more named space ended → ws ≡ words_of ls.lines number → IsRefusedWord g reason ws mark → option_map quantity_value limit ≡ limit_for g ws reason → MatchOption mark (ended ≡ None) (λ k. IsEndedBy g ws k ended)
         → AreNamed g.format (given_names ls.lines) number ws reason (most_names ls ws) named n → TellsSpace g.format ls.lines (given_names ls.lines) number ws reason mark space → ((x : NamedWord) → Contains named x → IsInside (length ls.lines) x) → IfSome space (IsInside (length ls.lines))
         → new ≡ old ++ marks ls number reason g mark limit ended named n space ws → IsMarkedText (with_lines ls more) number reason g old new
     by_first reached settled same m l e are tells inside space_inside t =
@@ -234,14 +238,14 @@ module _ (number : ℕ) (reason : Why) (g : GraphValue) (mark : Option ℕ) (lim
         (subst (λ names. TellsSpace g.format (ls.lines ++ more) names number ws reason mark (option_map (refound all_names number) space)) (sym names_are) (space_again (given_names ls.lines) (given_names more) number there ls.lines more sized g.format ws reason mark space tells))
         (t ∙ ap (λ z. old ++ z) (sym (parts_same (refused_line (ls.lines ++ more) number) (refused_line ls.lines number) (ended_text g (with_lines ls more) ended) (ended_text g ls ended)
         (named_texts (ls.lines ++ more) (map (refound all_names number) named)) (named_texts ls.lines named) (space_text (ls.lines ++ more) (option_map (refound all_names number) space)) (space_text ls.lines space)
-        (line_kept ls.lines more (number - 1) reached) (ended_same settled.none_ended)
+        (line_kept ls.lines more (number - 1) reached) (ended_same settled.end_is)
         (texts_again (given_names ls.lines) (given_names more) number there ls.lines more sized named are.each inside settled.names)
         (space_told (given_names ls.lines) (given_names more) number there ls.lines more sized g.format ws reason mark space tells space_inside settled.space_is))))
 
     by_none : more ≡ [] → IsMarkedText ls number reason g old new → IsMarkedText (with_lines ls more) number reason g old new
     by_none none t = subst (λ m. IsMarkedText (with_lines ls m) number reason g old new) (sym none) (subst (λ z. IsMarkedText (record { bytes = ls.bytes; lines = z; all = ls.all }) number reason g old new) (sym (append-nil ls.lines)) t)
 
-    pub carried : IsReached ls.lines more number → AreSettled more named space ended → ws ≡ words_of ls.lines number → IsRefusedWord g reason ws mark → option_map quantity_value limit ≡ limit_for g ws reason → MatchOption mark (ended ≡ None) (λ k. IsEndedBy g ws k ended)
+    pub carried : IsReached ls.lines more number → AreSettled g ls more named space ended → ws ≡ words_of ls.lines number → IsRefusedWord g reason ws mark → option_map quantity_value limit ≡ limit_for g ws reason → MatchOption mark (ended ≡ None) (λ k. IsEndedBy g ws k ended)
         → AreNamed g.format (given_names ls.lines) number ws reason (most_names ls ws) named n → TellsSpace g.format ls.lines (given_names ls.lines) number ws reason mark space → ((x : NamedWord) → Contains named x → IsInside (length ls.lines) x) → IfSome space (IsInside (length ls.lines))
         → new ≡ old ++ marks ls number reason g mark limit ended named n space ws → IsMarkedText (with_lines ls more) number reason g old new
     carried (inl none) settled same m l e are tells inside space_inside t = by_none none (marked done ls number reason g old new mark limit ended named n space ws same m l e are tells t)

@@ -1,13 +1,16 @@
 -- Names that no line gives.
-use Rattle.std.proofs.Common.{◌≡◌, ℕ, ◌+◌, ◌<◌, Bool, true, false, Bor, List, length, take, refl, inl, inr, sym, subst}
-use Rattle.std.specs.Prelude.{◌||◌, is_some, Contains, Option, Some, None}
-use Rattle.std.proofs.lemmas.Bool.{true≢false}
+use Rattle.std.proofs.Common.{◌≡◌, ℕ, ◌+◌, ◌<◌, Bool, true, Bor, List, length, take, refl, inl, inr, sym, ◌∙◌, subst}
+use Rattle.std.specs.Prelude.{nat_lt, Contains, Option, Some, None}
+use Rattle.std.proofs.lemmas.Bool.{ltb-true}
 use Rattle.std.proofs.lemmas.Option.{none-some}
 use Rattle.std.specs.List.{slice_index_or}
 use Rattle.std.proofs.lemmas.List.{take_more}
 use Rattle.std.proofs.lemmas.List.Elements.{Contains-push_cases}
 use Rattle.explain_text.specs.declared.naming.NamedWord.{NamedWord}
-use Rattle.explain_top.specs.Missing.{IsSettled, IsTold}
+use Rattle.graph_terms.specs.Graph.{GraphValue}
+use Rattle.explain_text.specs.Lines.{line_number}
+use Rattle.explain_text.specs.TextLines.{TextLines}
+use Rattle.explain_top.specs.Missing.{IsSettled, IsEndSettled, IsTold}
 
 -- one more name of some
 pub settled_more : (more : List (List ℕ)) (xs : List NamedWord) (k : ℕ) (d : NamedWord) → k < length xs → IsSettled more (slice_index_or xs k d) → ((x : NamedWord) → Contains (take k xs) x → IsSettled more x) → (x : NamedWord) → Contains (take (k + 1) xs) x → IsSettled more x
@@ -18,6 +21,6 @@ pub none_missing : (rest : Bor (List ℕ)) (m : ℕ) → IsTold (Some rest) m �
 none_missing rest m (inl e) = absurd (none-some rest (sym e))
 none_missing rest m (inr e) = e
 
-pub none_is : (o : Option ℕ) (b : Bool) → (is_some o || b) ≡ false → o ≡ None
-none_is None b e = refl
-none_is (Some k) b e = absurd (true≢false e)
+-- a line that is not the last of those that are told
+pub end_settled : (g : GraphValue) (ls : TextLines) (o : Option ℕ) (i : ℕ) (b : Bool) → o ≡ Some i → b ≡ nat_lt (line_number g ls i) (length ls.lines) → b ≡ true → IsEndSettled g ls o
+end_settled g ls o i b is told holds = subst (IsEndSettled g ls) (sym is) (ltb-true (line_number g ls i) (length ls.lines) (sym told ∙ holds))

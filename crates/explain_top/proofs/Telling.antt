@@ -16,7 +16,7 @@ use Rattle.refused_words.specs.Refused.{IsRefusedWord, refuses_in}
 use Rattle.explain_text.specs.Visible.{is_plain, visible, IsFrontOf}
 use Rattle.explain_text.specs.Named.{IsInside, given_names}
 use Rattle.explain_text.specs.declared.naming.NamedWord.{NamedWord}
-use Rattle.explain_top.specs.Answer.{IsWholeAnswer, most_bytes, told, IsAnswerIn}
+use Rattle.explain_top.specs.Answer.{IsWholeAnswer, speaks_of_none, most_bytes, told, IsAnswerIn}
 use Rattle.explain_top.specs.declared.answer.Answer.{Answer}
 
 -- the front of a long answer, and the line behind it
@@ -85,15 +85,30 @@ pub told_plain : (most : ℕ) (t : List ℕ) → list_all is_plain t ≡ true �
 told_plain most t e = plain_or (nat_lt most (length t)) (take (most - 4) t ++ codes "\n..\n") t
     (list_all-append is_plain (take (most - 4) t) (codes "\n..\n") ∙ ap (λ z. z && list_all is_plain (codes "\n..\n")) (plain_front (most - 4) t e)) e
 
--- no word is refused of a line without form
-none_at : (g : GraphValue) (ws : List (List ℕ)) (k : ℕ) (o : Option Place) → option_map_or (λ p. refuses_in g ws reasons.Syntax p k) o false ≡ false
-none_at g ws k None = refl
-none_at g ws k (Some p) = refl
+-- a reason that speaks of no single word refuses none
+abbrev refuses_none : Why → Type 0
+refuses_none why = (g : GraphValue) (ws : List (List ℕ)) (k : ℕ) (p : Place) → refuses_in g ws why p k ≡ false
 
-abbrev is_twice : Why → Bool
-is_twice reasons.Twice = true
-is_twice _ = false
+none_of : (why : Why) → speaks_of_none why ≡ true → refuses_none why
+none_of reasons.Header is g ws k p = refl
+none_of reasons.Syntax is g ws k p = refl
+none_of reasons.Limit is g ws k p = refl
+none_of reasons.Missing is g ws k p = refl
+none_of reasons.Rest is g ws k p = refl
+none_of reasons.Name is g ws k p = absurd (true≢false (sym is))
+none_of reasons.Twice is g ws k p = absurd (true≢false (sym is))
+none_of reasons.Unknown is g ws k p = absurd (true≢false (sym is))
+none_of reasons.Kind is g ws k p = absurd (true≢false (sym is))
+none_of reasons.Number is g ws k p = absurd (true≢false (sym is))
+none_of reasons.Space is g ws k p = absurd (true≢false (sym is))
+none_of reasons.Outside is g ws k p = absurd (true≢false (sym is))
+none_of reasons.Meets is g ws k p = absurd (true≢false (sym is))
+none_of reasons.Arrivals is g ws k p = absurd (true≢false (sym is))
 
-pub no_word_of_syntax : (g : GraphValue) (ws : List (List ℕ)) → IsRefusedWord g reasons.Syntax ws None
-no_word_of_syntax g ws j low (inl refused) = true≢false (sym refused ∙ none_at g ws j (place_at g.format ws j))
-no_word_of_syntax g ws j low (inr repeat) = true≢false (sym (ap is_twice repeat.0))
+none_at : (why : Why) (g : GraphValue) (ws : List (List ℕ)) (k : ℕ) (o : Option Place) → speaks_of_none why ≡ true → option_map_or (λ p. refuses_in g ws why p k) o false ≡ false
+none_at why g ws k None is = refl
+none_at why g ws k (Some p) is = none_of why is g ws k p
+
+pub no_word : (why : Why) (g : GraphValue) (ws : List (List ℕ)) → speaks_of_none why ≡ true → IsRefusedWord g why ws None
+no_word why g ws is j low (inl refused) = true≢false (sym refused ∙ none_at why g ws j (place_at g.format ws j) is)
+no_word why g ws is j low (inr repeat) = true≢false (sym is ∙ ap speaks_of_none repeat.0)

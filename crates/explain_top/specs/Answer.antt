@@ -90,6 +90,15 @@ IsAcceptedText ends c ls out =
 abbrev pub IsUnfitText : GraphValue → CheckRefusal → TextLines → List ℕ → Type 0
 IsUnfitText g why ls out = (x : Explanation) × IsExplanation g why x × (out ≡ explanation_text g ls x)
 
+-- whether a reason refuses no single word of any line
+abbrev pub speaks_of_none : Why → Bool
+speaks_of_none reasons.Header = true
+speaks_of_none reasons.Syntax = true
+speaks_of_none reasons.Limit = true
+speaks_of_none reasons.Missing = true
+speaks_of_none reasons.Rest = true
+speaks_of_none _ = false
+
 -- whether a reason speaks of names
 abbrev pub tells_names : Why → Bool
 tells_names reasons.Twice = true

@@ -1,6 +1,8 @@
 -- What is told of a refused line by the first lines of a text is told by all.
 use Rattle.std.specs.Prelude.{◌≡◌, ◌⊎◌, ℕ, ◌-◌, ◌<◌, List, [], ◌++◌, length, Contains, Option, None, IfSome}
 use Rattle.std.specs.Borrow.{Bor}
+use Rattle.graph_terms.specs.Graph.{GraphValue}
+use Rattle.explain_text.specs.Lines.{line_number}
 use Rattle.explain_text.specs.TextLines.{TextLines}
 use Rattle.explain_text.specs.Named.{given_names, first_place}
 use Rattle.explain_text.specs.declared.naming.NamedWord.{NamedWord}
@@ -17,14 +19,18 @@ IsReached ls more number = (more ≡ []) ⊎ (number - 1 < length ls)
 abbrev pub IsSettled : List (List ℕ) → NamedWord → Type 0
 IsSettled more x = x.above ≡ None → x.below ≡ None → first_place x.word.now 0 (given_names more) ≡ None
 
--- so is each of these names, and no line is told that has ended what a word names
-pub record AreSettledBy (more : List (List ℕ)) (named : List NamedWord) (space : Option NamedWord) (ended : Option ℕ) : Type 0 where
+-- the line that has ended what a word names is one of these, and not the last
+abbrev pub IsEndSettled : GraphValue → TextLines → Option ℕ → Type 0
+IsEndSettled g ls ended = IfSome ended (λ i. line_number g ls i < length ls.lines)
+
+-- so is each of these names, and so is that line
+pub record AreSettledBy (g : GraphValue) (ls : TextLines) (more : List (List ℕ)) (named : List NamedWord) (space : Option NamedWord) (ended : Option ℕ) : Type 0 where
   pub names : (x : NamedWord) → Contains named x → IsSettled more x
   pub space_is : IfSome space (IsSettled more)
-  pub none_ended : ended ≡ None
+  pub end_is : IsEndSettled g ls ended
 
-abbrev pub AreSettled : List (List ℕ) → List NamedWord → Option NamedWord → Option ℕ → Type 0
-AreSettled more named space ended = (more ≡ []) ⊎ AreSettledBy more named space ended
+abbrev pub AreSettled : GraphValue → TextLines → List (List ℕ) → List NamedWord → Option NamedWord → Option ℕ → Type 0
+AreSettled g ls more named space ended = (more ≡ []) ⊎ AreSettledBy g ls more named space ended
 
 -- no lines are left, or none of them is missing
 abbrev pub IsTold : Option (Bor (List ℕ)) → ℕ → Type 0

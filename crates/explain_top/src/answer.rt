@@ -10,7 +10,7 @@ ghost use Rattle.explain_text.specs.Front.{behind};
 ghost use Rattle.explain_text.specs.Named.{IsInside, names_text, space_text};
 ghost use Rattle.explain_text.specs.declared.naming.NamedWord.{NamedWord};
 ghost use Rattle.explain_text.specs.Visible.{is_plain, visible};
-ghost use Rattle.explain_top.specs.Answer.{IsAnswer, IsAnswerIn, IsWholeAnswer, asked, most_bytes, most_names, told, IsUnfitText, IsUnreadText, IsMarkedText, first_text, advice_text, AreNamed, TellsSpace, limit_for};
+ghost use Rattle.explain_top.specs.Answer.{IsAnswer, IsAnswerIn, IsWholeAnswer, speaks_of_none, asked, most_bytes, most_names, told, IsUnfitText, IsUnreadText, IsMarkedText, first_text, advice_text, AreNamed, TellsSpace, limit_for};
 ghost use Rattle.explain_top.specs.Missing.{IsReached, IsTold, with_lines};
 ghost use Rattle.graph_meaning.specs.Rules.{Accepted};
 ghost use Rattle.graph_reader.specs.Reading.{IsUnreadBy};
@@ -449,10 +449,10 @@ fn put_clashes(
     put_names(text, pieces, &named, &space)?;
     put_columns(alloc, text, graph, words.as_slice(), why, mark)?;
     put_advice(alloc, text, graph, why, line, words.as_slice(), mark)?;
-    Ok(missing_lines(rest, named.told.as_slice(), &space, ended))
+    Ok(missing_lines(graph, lines, rest, named.told.as_slice(), &space, ended))
 }
 
-/// The word that is refused. A line without form has none, so its words are not looked at one by one.
+/// The word that is refused. Where the reason speaks of none, words are not looked at one by one.
 fn mark_for(
     alloc: Global,
     graph: &Graph,
@@ -461,10 +461,20 @@ fn mark_for(
 ) -> Result<Option<usize>, NoMemory>
     ensures { IfOk result (IsRefusedWord graph.now why (contents words.now)) }
 {
-    match why {
-        Why::Syntax => Ok(None),
-        _ => refused_word(alloc, graph, words, why),
+    if speaks_of_none(why) {
+        return Ok(None);
     }
+    refused_word(alloc, graph, words, why)
+}
+
+/// Whether a reason refuses no single word of any line.
+fn speaks_of_none(why: Why) -> bool
+    ensures { result ≡ speaks_of_none why }
+{
+    matches!(
+        why,
+        Why::Header | Why::Syntax | Why::Limit | Why::Missing | Why::Rest
+    )
 }
 
 /// How many of the names of words are told at most.

@@ -1,45 +1,65 @@
 //! Which lines behind the first ones are told of.
 
-ghost use Rattle.std.specs.Prelude.{◌≡◌, Contains, IfSome};
+ghost use Rattle.std.specs.Prelude.{◌≡◌, true, Contains, IfSome};
 ghost use Rattle.graph_words.specs.Words.{pieces};
 ghost use Rattle.explain_text.specs.Front.{behind};
 ghost use Rattle.explain_text.specs.declared.naming.NamedWord.{NamedWord};
-ghost use Rattle.explain_top.specs.Missing.{AreSettled, AreSettledBy, IsSettled, IsTold};
+ghost use Rattle.explain_top.specs.Missing.{AreSettled, AreSettledBy, IsEndSettled, IsSettled, IsTold};
 
-use explain_text::{NamedWord, place_in};
+use explain_text::lines::is_above_last;
+use explain_text::{Lines, NamedWord, place_in};
+use graph_model::graph::Graph;
 
 /// How many names are looked up behind the first lines at most.
 const MOST_NAMES: usize = 16;
 
 /// How many lines behind the first ones are told of: none where each name that no line of these gives
-/// is given by none of the rest. More than there are stand for all.
+/// is given by none of the rest, and the line that has ended an event is one of the first. More than there
+/// are stand for all.
 pub(crate) fn missing_lines(
+    graph: &Graph,
+    lines: &Lines,
     rest: Option<&[u8]>,
     named: &[NamedWord],
     space: &Option<NamedWord>,
     ended: Option<u32>,
 ) -> usize
-    ensures { IsTold rest.entry result → AreSettled (behind rest.entry) named.now space.now ended }
+    ensures { IsTold rest.entry result → AreSettled graph.now lines.now (behind rest.entry) named.now space.now ended }
 {
     match rest {
         None => 0,
-        Some(bytes) => missing_in(bytes, named, space, ended),
+        Some(bytes) => missing_in(graph, lines, bytes, named, space, ended),
     }
 }
 
 /// The same of the lines of these bytes.
 fn missing_in(
+    graph: &Graph,
+    lines: &Lines,
     bytes: &[u8],
     named: &[NamedWord],
     space: &Option<NamedWord>,
     ended: Option<u32>,
 ) -> usize
-    ensures { result ≡ 0 → AreSettledBy (pieces 10 bytes.now) named.now space.now ended }
+    ensures { result ≡ 0 → AreSettledBy graph.now lines.now (pieces 10 bytes.now) named.now space.now ended }
 {
-    if ended.is_some() || named.len() > MOST_NAMES {
+    if named.len() > MOST_NAMES {
+        return usize::MAX;
+    }
+    if !is_end_settled(graph, lines, ended) {
         return usize::MAX;
     }
     most(missing_names(bytes, named), missing_space(bytes, space))
+}
+
+/// Whether the line that has ended an event is told by these lines as by more.
+fn is_end_settled(graph: &Graph, lines: &Lines, ended: Option<u32>) -> bool
+    ensures { result ≡ true → IsEndSettled graph.now lines.now ended }
+{
+    match ended {
+        Some(line) => is_above_last(graph, lines, line),
+        None => true,
+    }
 }
 
 /// The greater of two numbers.

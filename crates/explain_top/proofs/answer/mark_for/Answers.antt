@@ -1,10 +1,7 @@
-use Rattle.std.proofs.Common.{◌≡◌, sym, subst}
-use Rattle.std.specs.Prelude.{None}
+use Rattle.std.proofs.Common.{sym, ◌∙◌}
 use Rattle.basics.specs.Words.{contents}
-use Rattle.graph_terms.specs.declared.why.Why.{Why}
-use Rattle.refused_words.specs.Refused.{IsRefusedWord}
-use Rattle.explain_top.proofs.Telling.{no_word_of_syntax}
+use Rattle.explain_top.proofs.Telling.{no_word}
 use Rattle.explain_top.proofs.answer.mark_for.Goals as goal
 
-pub returns-in-Syntax : goal.returns-in-Syntax
-returns-in-Syntax c = subst (λ (w : Why). IsRefusedWord c.args.graph.now w (contents c.args.words.now) None) (sym c.in-Syntax.is) (no_word_of_syntax c.args.graph.now (contents c.args.words.now))
+pub returns-then-speaks_of_none : goal.returns-then-speaks_of_none
+returns-then-speaks_of_none c = no_word c.args.why c.args.graph.now (contents c.args.words.now) (sym c.speaks_of_none.ensures ∙ c.if-speaks_of_none.true)

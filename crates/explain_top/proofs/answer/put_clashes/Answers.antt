@@ -41,7 +41,7 @@ returns c told =
     subst (λ (q : List (List ℕ)). IsMarkedText (with_lines (record { bytes = bytes; lines = q; all = all }) more) number why g old new) c.requires.pieces
     (carried number why g mark limit n ws ls more old new ended named space
     (subst (λ (q : List (List ℕ)). IsReached q more number) (sym c.requires.pieces) c.requires.reached)
-    (subst (λ x. AreSettled more x space ended) c.as_slice-12.ensures.value (c.missing_lines.ensures told))
+    (subst (λ (q : List (List ℕ)). AreSettled g (record { bytes = bytes; lines = q; all = all }) more named space ended) (sym c.requires.pieces) (subst (λ x. AreSettled g c.args.lines.now more x space ended) c.as_slice-12.ensures.value (c.missing_lines.ensures told)))
     (c.in_ok-words.ensures ∙ ap (pieces 32) c.line_at-line.ensures)
     (subst (λ w. IsRefusedWord g why (contents w) mark) c.as_slice.ensures.value c.in_ok-mark.ensures)
     (subst (λ w. option_map quantity_value limit ≡ limit_for g (contents w) why) c.as_slice-8.ensures.value c.in_ok-passed.ensures)
