@@ -5,7 +5,7 @@ ghost use Rattle.basics.specs.Words.{contents};
 ghost use Rattle.line_forms.specs.Forms.{form_words, takes_on, takes_several};
 ghost use Rattle.line_forms.specs.Advice.{word_front, word_end, leave_text, several_text, told_at, told_text, told_texts, is_operation, begins_declaration, is_declared, vocabulary_of, key_place, where_text, is_verb, is_kernel, moved_text, has_sign, joined_text, left_at, unknown_text, forms_text, words_text, syntax_text, header_text, reason_text, advice};
 
-use crate::blanks::{Blank, blank_in, blank_text, ends_with_return};
+use crate::blanks::{Blank, blank_in, blank_text, ends_with_return, has_byte};
 use crate::files::{first_text, rest_text};
 use crate::follow::{followed, has_word, is_told};
 use crate::form::{FORMS, Form};
@@ -406,5 +406,5 @@ fn put_joined(out: &mut Vec<u8>, words: &[&[u8]]) -> Result<(), NoMemory>
 fn has_sign(word: &[u8]) -> bool
     ensures { result ≡ has_sign word.now }
 {
-    word.contains(&b'=')
+    has_byte(word, b'=')
 }

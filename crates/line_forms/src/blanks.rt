@@ -1,9 +1,11 @@
 //! What no line of a text has in it.
 
-ghost use Rattle.std.specs.Prelude.{◌≡◌};
+ghost use Rattle.std.specs.Prelude.{◌≡◌, ◌==◌};
 ghost use Rattle.std.specs.List.{list_any};
 ghost use Rattle.basics.specs.Words.{contents};
 ghost use Rattle.line_forms.specs.Blanks.{is_empty, ends_with_return, begins_comment, has_tab, blank_in, blank_text};
+
+use memchr::memchr;
 
 /// What no line of a text has in it.
 #[derive(Clone, Copy)]
@@ -83,7 +85,17 @@ pub(crate) fn begins_comment(line: &[u8]) -> bool
 pub fn has_tab(line: &[u8]) -> bool
     ensures { result ≡ has_tab line.now }
 {
-    line.contains(&b'\t')
+    has_byte(line, b'\t')
+}
+
+/// Whether bytes have this one.
+pub(crate) fn has_byte(bytes: &[u8], byte: u8) -> bool
+    ensures { result ≡ list_any (λ b. b == byte) bytes.now }
+{
+    match memchr(byte, bytes) {
+        Some(_place) => true,
+        None => false,
+    }
 }
 
 fn has_empty(words: &[&[u8]]) -> bool
