@@ -8,3 +8,4 @@ pub mod Public
 pub mod AccessLists
 mod Chains
 mod FreshLines
+mod LastLines

@@ -3,3 +3,4 @@ pub mod Summaries
 pub mod Laws
 pub mod Topmost
 pub mod Fresh
+pub mod Last

@@ -26,7 +26,7 @@ pub(crate) fn chained_lines(graph: &Graph, first: u32) -> u32
 }
 
 /// Whether a line waits for another by an edge.
-fn waits_for(graph: &Graph, line: u32, other: u32) -> bool
+pub(crate) fn waits_for(graph: &Graph, line: u32, other: u32) -> bool
     requires { line < length graph.now.lines }
     ensures { IsTrue result → HasPath graph.now other line }
 {

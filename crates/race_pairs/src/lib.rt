@@ -6,6 +6,7 @@ mod chained;
 mod common_sections;
 mod conflicts;
 mod fresh;
+mod ordered;
 mod races;
 mod rivals;
 pub mod topmost;

@@ -12,6 +12,7 @@ ghost use Rattle.section_sweeps.specs.Table.{IsTable};
 
 use crate::chained::chained_lines;
 use crate::conflicts::accesses_of_lines;
+use crate::ordered::ordered_lines;
 use crate::rivals::Rivals;
 use graph_meaning::laws::edges_between_lines;
 use graph_model::graph::Graph;
@@ -60,7 +61,7 @@ pub fn topmost_race_from(
     )
 }
 
-/// How many lines, from the first on, race with none above them, as far as a chain and scans show. Each
+/// How many lines, from the first on, race with none above them, as far as their edges and scans show. Each
 /// scan bounds the topmost race from above, by a race that it finds, or from below. None is tried
 /// behind one that finds too much overlap.
 fn free_lines(
@@ -77,7 +78,7 @@ fn free_lines(
     ensures begins { IfOk result (λ n. first ≤ n) }
     ensures free { IfOk result (NoneRaceBelow graph.now) }
 {
-    let mut low = chained_lines(graph, first);
+    let mut low = free_by_edges(alloc, graph, first)?;
     let mut high = second.min(graph.lines());
     for step in 0..MOST_SCANS {
         if high.saturating_sub(low) < FEW_LINES {
@@ -89,6 +90,22 @@ fn free_lines(
         high = bounds.1;
     }
     Ok(low)
+}
+
+/// How many lines, from the first on, race with none above them, as far as their edges show: those of a chain of
+/// lines, or of chains by columns, whichever reach further.
+fn free_by_edges(alloc: Global, graph: &Graph, first: u32) -> Result<u32, NoMemory>
+    requires above { (k : ℕ) → k < first → Everywhere (RaceAt graph.now k) }
+    ensures begins { IfOk result (λ n. first ≤ n) }
+    ensures free { IfOk result (NoneRaceBelow graph.now) }
+{
+    let chained = chained_lines(graph, first);
+    let ordered = ordered_lines(alloc, graph, first)?;
+    if ordered > chained {
+        Ok(ordered)
+    } else {
+        Ok(chained)
+    }
 }
 
 /// How far the next scan goes: to the upper bound, and from the fourth on in turn to the middle.
