@@ -1,13 +1,11 @@
 -- The first lines of a text, and those behind them.
 use Rattle.std.proofs.Common.{◌≡◌, ℕ, zero, suc, ◌+◌, ◌-◌, ◌<◌, ◌≤◌, Bool, true, false, cond, List, [], ◌∷◌, ◌++◌, length, drop, Bor, refl, sym, ◌∙◌, ap, arith}
-use Rattle.std.specs.Prelude.{◌==◌, nat_le, codes, decimal, Some, None, Result, Ok, Err, IfOk}
+use Rattle.std.specs.Prelude.{◌==◌, nat_le, codes, decimal, None, Result, Ok, Err, IfOk}
 use Rattle.std.specs.List.{list_any, slice_index_or}
-use Rattle.std.specs.Str.{bytes_eq}
 use Rattle.std.proofs.lemmas.List.{append-nil, get_or_append_left}
 use Rattle.basics.specs.Words.{contents}
-use Rattle.graph_words.specs.Cuts.{IsCut}
 use Rattle.graph_words.specs.Words.{pieces}
-use Rattle.graph_words.proofs.Public.{one_piece, pieces_cut}
+use Rattle.graph_words.proofs.Public.{one_piece}
 use Rattle.graph_comments.specs.Comments.{is_closing, is_comment, comments_above}
 use Rattle.graph_words.specs.Text.{has_comments}
 use Rattle.graph_terms.specs.Graph.{GraphValue}
@@ -17,7 +15,6 @@ use Rattle.explain_text.specs.Lines.{line_number}
 use Rattle.explain_text.specs.Laws.{EndedStays}
 use Rattle.explain_text.proofs.CommentFacts.{next_place}
 use Rattle.explain_text.specs.Front.{behind}
-use Rattle.explain_text.specs.Named.{given_name, given_names, first_place}
 use Rattle.explain_text.specs.declared.split.FrontLines.{FrontLines}
 
 -- where no newline is left
@@ -26,22 +23,6 @@ pub all_pieces : {E : Type 0} (r : Result FrontLines E) (parts : List (Bor (List
 all_pieces (Ok v) parts last bytes none same is =
     ap (λ o. contents v.lines.items ++ behind o) is.1 ∙ (append-nil (contents v.lines.items) ∙ (is.0 ∙ (ap (λ z. contents parts ++ z) (sym (one_piece 10 last none)) ∙ same)))
 all_pieces (Err e) parts last bytes none same is = tt
-
--- the name of the first line of a cut
-module _ (w rest line after gives : List ℕ) (at : ℕ) (cut : IsCut 10 rest line after) (is : gives ≡ given_name (pieces 32 line)) where
-  by_cut : first_place w at (given_names (pieces 10 rest)) ≡ cond (bytes_eq gives w) (Some at) (first_place w (at + 1) (given_names (pieces 10 after)))
-  by_cut = ap (λ ls. first_place w at (given_names ls)) (pieces_cut 10 rest line after cut) ∙ ap (λ x. cond (bytes_eq x w) (Some at) (first_place w (at + 1) (given_names (pieces 10 after)))) (sym is)
-
-  pub here_by_cut : bytes_eq gives w ≡ true → first_place w at (given_names (pieces 10 rest)) ≡ Some at
-  here_by_cut e = by_cut ∙ ap (λ b. cond b (Some at) (first_place w (at + 1) (given_names (pieces 10 after)))) e
-
-  pub later_by_cut : bytes_eq gives w ≡ false → first_place w at (given_names (pieces 10 rest)) ≡ first_place w (at + 1) (given_names (pieces 10 after))
-  later_by_cut e = by_cut ∙ ap (λ b. cond b (Some at) (first_place w (at + 1) (given_names (pieces 10 after)))) e
-
--- and that of the last line
-module _ (w rest gives : List ℕ) (at : ℕ) (none : list_any (λ b. b == 10) rest ≡ false) (is : gives ≡ given_name (pieces 32 rest)) where
-  pub by_last : (b : Bool) → bytes_eq gives w ≡ b → first_place w at (given_names (pieces 10 rest)) ≡ cond b (Some at) None
-  by_last b e = ap (λ ls. first_place w at (given_names ls)) (one_piece 10 rest none) ∙ (ap (λ x. cond (bytes_eq x w) (Some at) None) (sym is) ∙ ap (λ b. cond b (Some at) None) e)
 
 -- the comments above a line that is not the last one
 above_by : (closing comment : Bool) (k : ℕ) (ls more : List (List ℕ)) → ((j : ℕ) → j + comments_above j ls + 1 < length ls → comments_above j (ls ++ more) ≡ comments_above j ls) →

@@ -3,10 +3,9 @@ pub mod TextFacts
 mod WordPlaces
 mod WordParts
 pub mod EdgeTexts
+mod Pieces
 pub mod AcceptedFacts
-pub mod NamedFacts
 mod LineLaws
 mod CommentFacts
 mod FrontFacts
-mod NameSearch
 pub mod Public

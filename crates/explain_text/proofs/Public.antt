@@ -1,7 +1,8 @@
 -- The laws that the proofs of other crates cite, as specs/ states them.
-use Rattle.explain_text.specs.Laws.{PutSameBytes, PutsSameBytes, PutPartByPart, PutsPartByPart, EndedStays, PlaceInside}
+use Rattle.explain_text.specs.Laws.{PutSameBytes, PutsSameBytes, PutPartByPart, PutsPartByPart, EndedStays, FirstStands, StandsBehind, CutHasAll}
 use Rattle.explain_text.proofs.TextFacts as text_facts
-use Rattle.explain_text.proofs.NamedFacts as named_facts
+use Rattle.explain_text.proofs.WordParts as word_parts
+use Rattle.explain_text.proofs.WordPlaces as word_places
 use Rattle.explain_text.proofs.FrontFacts as front_facts
 
 pub put_as : PutSameBytes
@@ -19,5 +20,11 @@ then_puts = text_facts.then_puts
 pub ended_stays : EndedStays
 ended_stays = front_facts.ended_stays
 
-pub place_inside : PlaceInside
-place_inside = named_facts.given_inside
+pub first_stands : FirstStands
+first_stands = word_parts.first_stands
+
+pub stands_behind : StandsBehind
+stands_behind = word_parts.stands_behind
+
+pub cut_length : CutHasAll
+cut_length = word_places.cut_length

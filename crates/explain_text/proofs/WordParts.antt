@@ -8,12 +8,8 @@ use Rattle.std.proofs.lemmas.List.Splits.{join_with_byte-slice_split}
 use Rattle.std.proofs.lemmas.Slice.Eq.{bytes_eq-Decides}
 use Rattle.graph_words.specs.Words.{pieces}
 use Rattle.explain_text.specs.Shown.{shown, place_of, shown_behind, shown_at, shown_for, HasPart, TellsWord}
+use Rattle.explain_text.specs.Laws.{StandsAt, FirstStands, StandsBehind}
 use Rattle.explain_text.proofs.WordPlaces.{joined_more}
-
--- a word stands at a place of bytes
-pub record StandsAt (w : List ℕ) (p : ℕ) (l : List ℕ) : Type 0 where
-  pub within : p + length w ≤ length l
-  pub is : take (length w) (drop p l) ≡ w
 
 take_front : (x y : List ℕ) → take (length x) (x ++ y) ≡ x
 take_front [] y = refl
@@ -26,7 +22,7 @@ drop_behind (b ∷ x) c p l = ap (λ n. drop n (x ++ c ∷ l)) (let e : suc (len
 stands_front : (w y : List ℕ) → StandsAt w 0 (w ++ y)
 stands_front w y = record { within = (let e = length-append w y in omega (arith, e)); is = take_front w y }
 
-pub stands_behind : (x : List ℕ) (c : ℕ) (w : List ℕ) (p : ℕ) (l : List ℕ) → StandsAt w p l → StandsAt w (suc (length x + p)) (x ++ c ∷ l)
+pub stands_behind : StandsBehind
 stands_behind x c w p l s = record {
   within = (let e = length-append x (c ∷ l) in let h : p + length w ≤ length l = s.within in omega (arith, e, h));
   is = ap (take (length w)) (drop_behind x c p l) ∙ s.is;
@@ -36,13 +32,13 @@ stands_behind x c w p l s = record {
 abbrev Stands : List ℕ → ℕ → List (List ℕ) → Type 0
 Stands w n ws = (q : ℕ) × (place_of w n ws ≡ n + q) × StandsAt w q (join_with_byte 32 ws)
 
-pub stands_first : (w : List ℕ) (n : ℕ) (ws : List (List ℕ)) → StandsAt w 0 (join_with_byte 32 (w ∷ ws))
-stands_first w n [] = record { within = omega arith; is = take_all_of w }
+pub first_stands : FirstStands
+first_stands w [] = record { within = omega arith; is = take_all_of w }
   where
     take_all_of : (x : List ℕ) → take (length x) x ≡ x
     take_all_of [] = refl
     take_all_of (b ∷ x) = ap (λ z. b ∷ z) (take_all_of x)
-stands_first w n (x ∷ ws) = stands_front w (32 ∷ join_with_byte 32 (x ∷ ws))
+first_stands w (x ∷ ws) = stands_front w (32 ∷ join_with_byte 32 (x ∷ ws))
 
 word_step : (w x : List ℕ) (ws : List (List ℕ)) (n i : ℕ) → ((j : ℕ) → j < length ws → get_or ws j w ≡ w → Stands w (n + length x + 1) ws) → i < length (x ∷ ws) → get_or (x ∷ ws) i w ≡ w → Stands w n (x ∷ ws)
 word_step w x ws n i further low is = by_test (bytes_eq x w) refl
@@ -55,7 +51,7 @@ word_step w x ws n i further low is = by_test (bytes_eq x w) refl
     by_test true e = (
       0,
       cond-true (bytes_eq x w) n (place_of w (n + length x + 1) ws) e ∙ (let z : n ≡ n + 0 = omega arith in z),
-      subst (λ z. StandsAt w 0 (join_with_byte 32 (z ∷ ws))) (sym ((bytes_eq-Decides x w).0 e)) (stands_first w n ws),
+      subst (λ z. StandsAt w 0 (join_with_byte 32 (z ∷ ws))) (sym ((bytes_eq-Decides x w).0 e)) (first_stands w ws),
     )
     by_test false e =
         let r = rest e i low is in

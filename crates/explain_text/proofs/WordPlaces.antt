@@ -8,6 +8,7 @@ use Rattle.std.proofs.lemmas.List.Splits.{join_with_byte-slice_split}
 use Rattle.graph_words.specs.Cuts.{IsCut}
 use Rattle.graph_words.specs.Words.{pieces}
 use Rattle.explain_text.specs.Shown.{place_of}
+use Rattle.explain_text.specs.Laws.{CutHasAll}
 use Rattle.graph_words.proofs.Public.{one_piece, pieces_cut, some_pieces}
 
 pub joined_more : (c : ℕ) (x : List ℕ) (ws : List (List ℕ)) → 0 < length ws → join_with_byte c (x ∷ ws) ≡ x ++ c ∷ join_with_byte c ws
@@ -21,7 +22,7 @@ cut_whole c bs front back h =
     let some : 0 < length (pieces c back) = (let e = ap length s.2 in omega (arith, e)) in
     sym (join_with_byte-slice_split c bs) ∙ (ap (join_with_byte c) (pieces_cut c bs front back h) ∙ (joined_more c front (pieces c back) some ∙ ap (λ z. front ++ c ∷ z) (join_with_byte-slice_split c back)))
 
-pub cut_length : (c : ℕ) (bs front back : List ℕ) → IsCut c bs front back → length bs ≡ length front + 1 + length back
+pub cut_length : CutHasAll
 cut_length c bs front back h = let e = ap length (cut_whole c bs front back h) ∙ length-append front (c ∷ back) in omega (arith, e)
 
 -- a step of the search for a word: at this piece, further on, at the last one, or nowhere

@@ -1,17 +1,17 @@
 -- That what is told as a line of the text is that line.
-use Rattle.std.specs.Prelude.{◌≡◌, ◌+◌, ◌-◌, ◌<◌, ◌≤◌, ℕ, true, List, [], length, Option, Some, IfSome, slice_get, ◌++◌, Result, OnOk}
+use Rattle.std.specs.Prelude.{◌≡◌, ◌+◌, ◌-◌, ◌<◌, ◌≤◌, ℕ, suc, true, List, [], ◌∷◌, length, take, drop, Some, slice_get, ◌++◌, Result, OnOk}
 use Rattle.std.specs.List.{slice_index_or, join_with_byte}
 use Rattle.graph_terms.specs.declared.verb.Line.{Line}
 use Rattle.graph_terms.specs.declared.why.Why.{Why}
 use Rattle.graph_terms.specs.Graph.{GraphValue}
 use Rattle.graph_terms.specs.Spelling.{line_words}
+use Rattle.graph_words.specs.Cuts.{IsCut}
 use Rattle.graph_words.specs.Words.{pieces}
 use Rattle.graph_words.specs.Text.{GraphText, bare_of}
 use Rattle.graph_reader.specs.FirstFault.{IsLineFault, IsRestFault, FirstFault}
 use Rattle.graph_reader.specs.Laws.{refused_line}
 use Rattle.explain_text.specs.TextLines.{TextLines}
 use Rattle.explain_text.specs.Lines.{line_number, line_of}
-use Rattle.explain_text.specs.Named.{first_place}
 use Rattle.explain_text.specs.Unread.{ended_text}
 
 -- the lines of these bytes, told whole
@@ -54,6 +54,19 @@ PutsPartByPart X E = (r : Result X E) (old mid new a b : List ℕ) → mid ≡ o
 abbrev pub EndedStays : Type 0
 EndedStays = (g : GraphValue) (ls : TextLines) (more : List (List ℕ)) (i : ℕ) → line_number g ls i < length ls.lines → ended_text g (record { bytes = ls.bytes; lines = ls.lines ++ more; all = ls.all }) (Some i) ≡ ended_text g ls (Some i)
 
--- the place at which a name stands among some is one of theirs
-abbrev pub PlaceInside : Type 0
-PlaceInside = (w : List ℕ) (n m : ℕ) (names : List (List ℕ)) (o : Option ℕ) → o ≡ first_place w n names → n + length names ≤ m → IfSome o (λ k. k < m)
+-- a word stands at a place of bytes
+pub record StandsAt (w : List ℕ) (p : ℕ) (l : List ℕ) : Type 0 where
+  pub within : p + length w ≤ length l
+  pub is : take (length w) (drop p l) ≡ w
+
+-- the first of some words stands at the front of the line that they make
+abbrev pub FirstStands : Type 0
+FirstStands = (w : List ℕ) (ws : List (List ℕ)) → StandsAt w 0 (join_with_byte 32 (w ∷ ws))
+
+-- what stands in bytes stands further behind where more bytes, and one that parts them, stand before these
+abbrev pub StandsBehind : Type 0
+StandsBehind = (x : List ℕ) (c : ℕ) (w : List ℕ) (p : ℕ) (l : List ℕ) → StandsAt w p l → StandsAt w (suc (length x + p)) (x ++ c ∷ l)
+
+-- how many bytes a cut has
+abbrev pub CutHasAll : Type 0
+CutHasAll = (c : ℕ) (bs front back : List ℕ) → IsCut c bs front back → length bs ≡ length front + 1 + length back

@@ -5,6 +5,5 @@ pub mod Shown
 pub mod Front
 pub mod Lines
 pub mod Accepted
-pub mod Named
 pub mod Unread
 pub mod Laws

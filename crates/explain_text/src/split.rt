@@ -75,7 +75,7 @@ fn all_lines<'a>(mut parts: Vec<&'a [u8]>, last: &'a [u8]) -> Result<FrontLines<
 }
 
 /// The first line and the bytes behind its newline. `None` exactly where there is no newline.
-pub(crate) fn cut_line(bytes: &[u8]) -> Option<(&[u8], &[u8])>
+pub fn cut_line(bytes: &[u8]) -> Option<(&[u8], &[u8])>
     ensures { MatchOption result (list_any (λ b. b == 10) bytes.now ≡ false) (λ x. IsCut 10 bytes.now x.0.now x.1.now) }
 {
     match memchr(b'\n', bytes) {
@@ -86,7 +86,7 @@ pub(crate) fn cut_line(bytes: &[u8]) -> Option<(&[u8], &[u8])>
 
 /// The first word of a line and the bytes behind its space. `None` exactly where there is no space. In a long
 /// line it is sought many bytes at a time.
-pub(crate) fn cut_word(line: &[u8]) -> Option<(&[u8], &[u8])>
+pub fn cut_word(line: &[u8]) -> Option<(&[u8], &[u8])>
     ensures { MatchOption result (list_any (λ b. b == 32) line.now ≡ false) (λ x. IsCut 32 line.now x.0.now x.1.now) }
 {
     if line.len() <= FEW_BYTES {
@@ -126,7 +126,7 @@ pub(crate) fn piece<'a>(parts: &[&'a [u8]], place: usize) -> &'a [u8]
 }
 
 /// The first `n` parts, or all where there are fewer.
-pub(crate) fn front<'a, 'b>(parts: &'b [&'a [u8]], n: usize) -> &'b [&'a [u8]]
+pub fn front<'a, 'b>(parts: &'b [&'a [u8]], n: usize) -> &'b [&'a [u8]]
     ensures { contents result.now ≡ take n (contents parts.now) }
 {
     if n < parts.len() { &parts[..n] } else { parts }

@@ -12,10 +12,11 @@ use Rattle.graph_terms.specs.declared.why.Why.TheVariants as reasons
 use Rattle.graph_words.specs.Words.{pieces, first_piece}
 use Rattle.graph_words.specs.Draft.{Place, NewName, SpaceName, LockName, BarrierName, UserName, PhaseName, AcquireName, EventName, CallName, Column, DataColumn, Fields, Value, Times, Weight, Shared, Count, Intervals}
 use Rattle.refused_words.specs.Places.{place_at}
-use Rattle.explain_text.specs.Named.{IsNamedWord, IsInside, given_names, given_name, first_place, told_new, told_in, told_word, with_told, once_words, third_of, third_at, over_word, space_in, below_text, named_by, named_text, named_texts, space_text}
+use Rattle.told_names.specs.Named.{IsNamedWord, IsInside, given_names, given_name, first_place, told_new, told_in, told_word, with_told, once_words, third_of, third_at, over_word, space_in, below_text, named_by, named_text, named_texts, space_text}
 use Rattle.explain_text.specs.Shown.{shown, shown_for, more_text}
-use Rattle.explain_text.specs.declared.naming.NamedWord.{NamedWord}
-use Rattle.explain_text.proofs.Public.{ended_stays, place_inside}
+use Rattle.told_names.specs.declared.naming.NamedWord.{NamedWord}
+use Rattle.explain_text.proofs.Public.{ended_stays}
+use Rattle.told_names.proofs.Public.{place_inside}
 use Rattle.explain_text.specs.TextLines.{TextLines}
 use Rattle.explain_text.specs.Unread.{unread_text, mark_text, refused_text, limit_text, ended_text}
 use Rattle.refused_words.specs.Refused.{IsRefusedWord}

@@ -8,8 +8,8 @@ use Rattle.refused_words.specs.Ends.{IsEndedBy}
 use Rattle.refused_words.specs.Limits.{quantity_value}
 use Rattle.refused_words.specs.declared.limits.Quantity.{Quantity}
 use Rattle.explain_text.specs.TextLines.{TextLines}
-use Rattle.explain_text.specs.Named.{given_names, names_text, space_text}
-use Rattle.explain_text.specs.declared.naming.NamedWord.{NamedWord}
+use Rattle.told_names.specs.Named.{given_names, names_text, space_text}
+use Rattle.told_names.specs.declared.naming.NamedWord.{NamedWord}
 use Rattle.explain_text.specs.Unread.{refused_text, limit_text, ended_text}
 use Rattle.explain_top.specs.Answer.{IsMarkedText, most_names, AreNamed, TellsSpace, limit_for, refused_line, words_of, advice_text}
 use Rattle.explain_top.specs.Columns.{columns_text}

@@ -6,7 +6,7 @@ use Rattle.std.proofs.lemmas.Option.{none-some}
 use Rattle.std.specs.List.{slice_index_or}
 use Rattle.std.proofs.lemmas.List.{take_more}
 use Rattle.std.proofs.lemmas.List.Elements.{Contains-push_cases}
-use Rattle.explain_text.specs.declared.naming.NamedWord.{NamedWord}
+use Rattle.told_names.specs.declared.naming.NamedWord.{NamedWord}
 use Rattle.graph_terms.specs.Graph.{GraphValue}
 use Rattle.explain_text.specs.Lines.{line_number}
 use Rattle.explain_text.specs.TextLines.{TextLines}

@@ -14,8 +14,8 @@ use Rattle.graph_words.specs.Draft.{Place}
 use Rattle.refused_words.specs.Places.{place_at}
 use Rattle.refused_words.specs.Refused.{IsRefusedWord, refuses_in}
 use Rattle.explain_text.specs.Visible.{is_plain, visible, IsFrontOf}
-use Rattle.explain_text.specs.Named.{IsInside, given_names}
-use Rattle.explain_text.specs.declared.naming.NamedWord.{NamedWord}
+use Rattle.told_names.specs.Named.{IsInside, given_names}
+use Rattle.told_names.specs.declared.naming.NamedWord.{NamedWord}
 use Rattle.explain_top.specs.Answer.{IsWholeAnswer, speaks_of_none, most_bytes, told, IsAnswerIn}
 use Rattle.explain_top.specs.declared.answer.Answer.{Answer}
 

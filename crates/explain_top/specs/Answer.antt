@@ -29,8 +29,8 @@ use Rattle.explain_graph.specs.declared.explanation.Explanation.{Explanation}
 use Rattle.explain_graph.specs.declared.ways.Way.{Way}
 use Rattle.explain_text.specs.Accepted.{need_text, need_line_text, each_text, waiting_text, cancelled_text, ways_text}
 use Rattle.explain_text.specs.declared.bounds.TheConstants.{MAX_NAMES, MAX_ANSWER, MAX_WHOLE}
-use Rattle.explain_text.specs.Named.{IsNamedWord, given_names, told_word, once_words, space_word, names_text, space_text}
-use Rattle.explain_text.specs.declared.naming.NamedWord.{NamedWord}
+use Rattle.told_names.specs.Named.{IsNamedWord, given_names, told_word, once_words, space_word, names_text, space_text}
+use Rattle.told_names.specs.declared.naming.NamedWord.{NamedWord}
 use Rattle.explain_text.specs.TextLines.{TextLines}
 use Rattle.explain_text.specs.Visible.{is_plain, visible}
 use Rattle.explain_text.specs.Unread.{unread_text, mark_text, refused_text, limit_text, ended_text}

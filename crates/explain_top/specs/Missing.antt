@@ -1,11 +1,15 @@
 -- What is told of a refused line by the first lines of a text is told by all.
 use Rattle.std.specs.Prelude.{◌≡◌, ◌⊎◌, ℕ, ◌-◌, ◌<◌, List, [], ◌++◌, length, Contains, Option, None, IfSome}
 use Rattle.std.specs.Borrow.{Bor}
+use Rattle.graph_reader.specs.declared.reader.Unread.{Unread}
+use Rattle.graph_terms.specs.declared.why.Why.{Why}
 use Rattle.graph_terms.specs.Graph.{GraphValue}
+use Rattle.explain_text.specs.Front.{behind}
 use Rattle.explain_text.specs.Lines.{line_number}
 use Rattle.explain_text.specs.TextLines.{TextLines}
-use Rattle.explain_text.specs.Named.{given_names, first_place}
-use Rattle.explain_text.specs.declared.naming.NamedWord.{NamedWord}
+use Rattle.told_names.specs.Named.{given_names, first_place}
+use Rattle.told_names.specs.declared.naming.NamedWord.{NamedWord}
+use Rattle.explain_top.specs.Answer.{IsMarkedText, IsUnreadText}
 
 -- the text with more lines
 abbrev pub with_lines : TextLines → List (List ℕ) → TextLines
@@ -35,3 +39,15 @@ AreSettled g ls more named space ended = (more ≡ []) ⊎ AreSettledBy g ls mor
 -- no lines are left, or none of them is missing
 abbrev pub IsTold : Option (Bor (List ℕ)) → ℕ → Type 0
 IsTold rest missing = (rest ≡ None) ⊎ (missing ≡ 0)
+
+-- the text on a line that is refused so
+abbrev pub IsTextOn : TextLines → Unread → List ℕ → Type 0
+IsTextOn ls u out = IsUnreadText ls u.number u.why u.above out
+
+-- it is the text by all lines, where none of the rest is missing
+abbrev pub TellsBy : TextLines → Option (Bor (List ℕ)) → Unread → ℕ → List ℕ → Type 0
+TellsBy ls rest u missing out = IsTold rest missing → IsTextOn (with_lines ls (behind rest)) u out
+
+-- so is what is told of one that is refused behind a graph
+abbrev pub MarksBy : TextLines → Option (Bor (List ℕ)) → ℕ → Why → GraphValue → List ℕ → List ℕ → ℕ → Type 0
+MarksBy ls rest number why g old new missing = IsTold rest missing → IsMarkedText (with_lines ls (behind rest)) number why g old new

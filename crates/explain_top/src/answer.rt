@@ -7,11 +7,11 @@ ghost use Rattle.refused_words.specs.Ends.{IsEndedBy};
 ghost use Rattle.refused_words.specs.Refused.{IsRefusedWord};
 ghost use Rattle.refused_words.specs.Limits.{quantity_value};
 ghost use Rattle.explain_text.specs.Front.{behind};
-ghost use Rattle.explain_text.specs.Named.{IsInside, names_text, space_text};
-ghost use Rattle.explain_text.specs.declared.naming.NamedWord.{NamedWord};
+ghost use Rattle.told_names.specs.Named.{IsInside, names_text, space_text};
+ghost use Rattle.told_names.specs.declared.naming.NamedWord.{NamedWord};
 ghost use Rattle.explain_text.specs.Visible.{is_plain, visible};
-ghost use Rattle.explain_top.specs.Answer.{IsAnswer, IsAnswerIn, IsWholeAnswer, speaks_of_none, asked, most_bytes, most_names, told, IsUnfitText, IsUnreadText, IsMarkedText, first_text, advice_text, AreNamed, TellsSpace, limit_for};
-ghost use Rattle.explain_top.specs.Missing.{IsReached, IsTold, with_lines};
+ghost use Rattle.explain_top.specs.Answer.{IsAnswer, IsAnswerIn, IsWholeAnswer, speaks_of_none, asked, most_bytes, most_names, told, IsUnfitText, IsUnreadText, first_text, advice_text, AreNamed, TellsSpace, limit_for};
+ghost use Rattle.explain_top.specs.Missing.{IsReached, IsTextOn, MarksBy, TellsBy};
 ghost use Rattle.graph_meaning.specs.Rules.{Accepted};
 ghost use Rattle.graph_reader.specs.Reading.{IsUnreadBy};
 ghost use Rattle.graph_words.specs.Text.{GraphText};
@@ -25,21 +25,23 @@ use explain_graph::explain;
 use explain_text::bounds::{MAX_ANSWER, MAX_NAMES, MAX_WHOLE};
 use explain_text::visible::visible_front;
 use explain_text::{
-    Lines, NamedWord, NamedWords, Text, given_names, line_at, named_space, named_words, put_ended,
-    put_limit, put_mark, put_named_words, put_refused, put_space, put_unread, split_front,
+    Lines, Text, line_at, put_ended, put_limit, put_mark, put_refused, put_unread, split_front,
 };
 use graph_model::graph::Graph;
 use graph_reader::{Reading, Unread, read_text};
 use graph_terms::format::Format;
 use graph_terms::why::Why;
-use graph_words::words::split;
 use index_spaces::NoMemory;
 use line_forms::line_advice;
+use line_forms::splitting::split_long;
 use race_check::check;
 use race_check::checked::{CheckRefusal, Unfit};
 use refusal_text::put_explanation;
 use refused_words::{Quantity, ended_by, passed_limit, refused_word};
 use std::alloc::Global;
+use told_names::{
+    NamedWord, NamedWords, given_names, named_space, named_words, put_named_words, put_space,
+};
 use word_forms::word_advice;
 
 /// What becomes of an input.
@@ -278,7 +280,7 @@ fn front_text(
     all: bool,
     count: usize,
 ) -> Result<FrontText, NoMemory>
-    ensures { IfOk result (λ t. t.missing ≡ 0 → IsUnreadText (asked all bytes.now) unread.now.number unread.now.why unread.now.above t.text) }
+    ensures { IfOk result (λ t. t.missing ≡ 0 → IsTextOn (asked all bytes.now) unread.now t.text) }
 {
     let front = split_front(alloc, bytes, count)?;
     let rest = front.rest;
@@ -319,7 +321,7 @@ fn put_unread_text(
     unread: &Unread,
 ) -> Result<FrontText, NoMemory>
     requires { IsReached lines.now.lines (behind rest) unread.now.number }
-    ensures { IfOk result (λ t. IsTold rest.entry t.missing → IsUnreadText (with_lines lines.now (behind rest.entry)) unread.now.number unread.now.why unread.now.above t.text) }
+    ensures { IfOk result (λ t. TellsBy lines.now rest.entry unread.now t.missing t.text) }
 {
     let mut text = Text::new(alloc);
     put_unread(&mut text, lines.pieces(), unread.number, unread.why)?;
@@ -355,7 +357,7 @@ fn put_first(
 {
     put_mark(text, number, &[], &[], None)?;
     let line = line_at(lines, number);
-    let words = split(alloc, line, b' ')?;
+    let words = split_long(alloc, line, b' ')?;
     let advice = line_advice(alloc, Format::One, false, why, line, words.as_slice())?;
     text.put(advice.as_slice())
 }
@@ -399,7 +401,7 @@ fn put_behind(
     why: Why,
 ) -> Result<usize, NoMemory>
     requires { IsReached lines.now.lines (behind rest) number }
-    ensures { IfOk result (λ m. IsTold rest.entry m → IsMarkedText (with_lines lines.now (behind rest.entry)) number why graph.now text.old text.new) }
+    ensures { IfOk result (MarksBy lines.now rest.entry number why graph.now text.old text.new) }
 {
     put_clashes(alloc, text, graph, lines, lines.pieces(), rest, number, why)
 }
@@ -417,10 +419,10 @@ fn put_clashes(
 ) -> Result<usize, NoMemory>
     requires pieces { contents pieces.now ≡ lines.now.lines }
     requires reached { IsReached lines.now.lines (behind rest) number }
-    ensures { IfOk result (λ m. IsTold rest.entry m → IsMarkedText (with_lines lines.now (behind rest.entry)) number why graph.now text.old text.new) }
+    ensures { IfOk result (MarksBy lines.now rest.entry number why graph.now text.old text.new) }
 {
     let line = line_at(pieces, number);
-    let words = split(alloc, line, b' ')?;
+    let words = split_long(alloc, line, b' ')?;
     let mark = mark_for(alloc, graph, words.as_slice(), why)?;
     let ended = ended_for(graph, words.as_slice(), mark);
     let names = given_names(alloc, pieces)?;

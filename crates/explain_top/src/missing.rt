@@ -3,15 +3,14 @@
 ghost use Rattle.std.specs.Prelude.{◌≡◌, true, Contains, IfSome};
 ghost use Rattle.graph_words.specs.Words.{pieces};
 ghost use Rattle.explain_text.specs.Front.{behind};
-ghost use Rattle.explain_text.specs.declared.naming.NamedWord.{NamedWord};
+ghost use Rattle.told_names.specs.declared.naming.NamedWord.{NamedWord};
 ghost use Rattle.explain_top.specs.Missing.{AreSettled, AreSettledBy, IsEndSettled, IsSettled, IsTold};
 
+use explain_text::Lines;
+use explain_text::bounds::MAX_NAMES;
 use explain_text::lines::is_above_last;
-use explain_text::{Lines, NamedWord, place_in};
 use graph_model::graph::Graph;
-
-/// How many names are looked up behind the first lines at most.
-const MOST_NAMES: usize = 16;
+use told_names::{NamedWord, place_in};
 
 /// How many lines behind the first ones are told of: none where each name that no line of these gives
 /// is given by none of the rest, and the line that has ended an event is one of the first. More than there
@@ -43,7 +42,7 @@ fn missing_in(
 ) -> usize
     ensures { result ≡ 0 → AreSettledBy graph.now lines.now (pieces 10 bytes.now) named.now space.now ended }
 {
-    if named.len() > MOST_NAMES {
+    if named.len() > MAX_NAMES {
         return usize::MAX;
     }
     if !is_end_settled(graph, lines, ended) {

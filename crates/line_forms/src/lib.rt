@@ -11,6 +11,7 @@ pub mod hint;
 mod left;
 mod nearest;
 pub mod putting;
+pub mod splitting;
 mod twice;
 mod vocabulary;
 

@@ -22,6 +22,7 @@ use line_forms::calls::{Expected, expected_behind};
 use line_forms::follow::{followed, is_told};
 use line_forms::hint::{front, put_merge_lines};
 use line_forms::putting::{put, put_decimal};
+use line_forms::splitting::split_long;
 use line_forms::{FORMS, Form};
 use std::alloc::Global;
 
@@ -302,7 +303,7 @@ fn put_later(
 fn is_later(alloc: Global, format: Format, word: &[u8], separator: u8) -> Result<bool, NoMemory>
     ensures { IfOk result (λ b. b ≡ is_later format (pieces separator word.now)) }
 {
-    let parts = split(alloc, word, separator)?;
+    let parts = split_long(alloc, word, separator)?;
     let now = are_names(alloc, format, parts.as_slice())?;
     let later = are_names(alloc, Format::Three, parts.as_slice())?;
     Ok(!now && later)
@@ -331,7 +332,7 @@ fn put_commas(
     ensures { OnOk result (out.new.items ≡ out.old.items ++ comma_text format form (contents words.now) k) }
 {
     let slot = slot_at(alloc, format, form, words, k)?;
-    let events = split(alloc, word(words, k), b',')?;
+    let events = split_long(alloc, word(words, k), b',')?;
     let named = are_names(alloc, format, events.as_slice())?;
     if is_event(slot) && named {
         return put_events(out, format, form, front(words, k), events.as_slice());

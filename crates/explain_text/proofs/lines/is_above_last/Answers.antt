@@ -1,6 +1,6 @@
 use Rattle.std.proofs.Common.{length, sym, ◌∙◌, ap}
 use Rattle.std.specs.Prelude.{nat_lt}
-use Rattle.explain_text.proofs.NamedFacts.{lines_size}
+use Rattle.explain_text.proofs.Pieces.{lines_size}
 use Rattle.explain_text.proofs.lines.is_above_last.Goals as goal
 
 pub returns : goal.returns

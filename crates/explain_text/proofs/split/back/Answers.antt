@@ -1,4 +1,4 @@
-use Rattle.explain_text.proofs.NamedFacts.{back_of}
+use Rattle.explain_text.proofs.Pieces.{back_of}
 use Rattle.explain_text.proofs.split.back.Goals as goal
 
 pub returns-then-n-parts : goal.returns-then-n-parts

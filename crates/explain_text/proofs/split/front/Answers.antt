@@ -1,4 +1,4 @@
-use Rattle.explain_text.proofs.NamedFacts.{front_of}
+use Rattle.explain_text.proofs.Pieces.{front_of}
 use Rattle.explain_text.proofs.split.front.Goals as goal
 
 pub returns-then-n-parts : goal.returns-then-n-parts

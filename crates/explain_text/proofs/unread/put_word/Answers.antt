@@ -2,7 +2,7 @@ use Rattle.std.proofs.Common.{◌+◌, ◌∙◌, sym, ap, take, length}
 use Rattle.std.specs.Prelude.{codes, decimal}
 use Rattle.basics.specs.Words.{contents}
 use Rattle.explain_text.specs.Shown.{shown}
-use Rattle.explain_text.proofs.NamedFacts.{lines_size}
+use Rattle.explain_text.proofs.Pieces.{lines_size}
 use Rattle.explain_text.proofs.TextFacts.{then_puts, put_as}
 use Rattle.explain_text.proofs.unread.put_word.Goals as goal
 

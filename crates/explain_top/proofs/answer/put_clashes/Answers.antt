@@ -6,7 +6,7 @@ use Rattle.refused_words.specs.Refused.{IsRefusedWord}
 use Rattle.refused_words.specs.Ends.{IsEndedBy}
 use Rattle.refused_words.specs.Limits.{quantity_value}
 use Rattle.explain_text.specs.Front.{behind}
-use Rattle.explain_text.specs.Named.{given_names, names_text, space_text}
+use Rattle.told_names.specs.Named.{given_names, names_text, space_text}
 use Rattle.explain_text.specs.Unread.{refused_text, limit_text, ended_text}
 use Rattle.explain_text.specs.TextLines.{TextLines}
 use Rattle.explain_text.proofs.Public.{put_as, then_put}

@@ -1,7 +1,7 @@
 use Rattle.std.proofs.Common.{◌≡◌, take}
 use Rattle.std.specs.Prelude.{Contains}
 use Rattle.graph_words.specs.Words.{pieces}
-use Rattle.explain_text.specs.declared.naming.NamedWord.{NamedWord}
+use Rattle.told_names.specs.declared.naming.NamedWord.{NamedWord}
 use Rattle.explain_top.specs.Missing.{IsSettled}
 use Rattle.explain_top.proofs.missing.missing_names.Given as goal
 

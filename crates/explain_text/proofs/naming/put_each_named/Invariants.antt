@@ -1,7 +1,0 @@
-use Rattle.std.proofs.Common.{◌≡◌, ◌++◌, take}
-use Rattle.basics.specs.Words.{contents}
-use Rattle.explain_text.specs.Named.{named_texts}
-use Rattle.explain_text.proofs.naming.put_each_named.Given as goal
-
-abbrev pub invariant-loop-word : goal.invariant-loop-word
-invariant-loop-word l = l.text ≡ l.initial.text ++ named_texts (contents l.lines) (take l.word-index l.words)

@@ -1,0 +1,5 @@
+mod NamedFacts
+mod LineCuts
+mod NameSearch
+mod PlaceFacts
+pub mod Public
